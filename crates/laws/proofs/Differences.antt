@@ -1,0 +1,51 @@
+-- Whole numbers as differences of naturals: `subℕ a b` is a - b. Each sum, order and equation of differences becomes one of naturals,
+-- which `omega` reads. Assumes nothing.
+use mathlib.Core.Bool.{Bool, true, false, not, cond}
+use mathlib.Core.Path.{_≡_, refl, ap}
+use Prim.Native.Nat.{ℕ, zero, suc, _+_, _-_, _≤_, _<_}
+use native.Mathlib.Omega.{arith}
+use lib.Dec.{T, ltb, ltb→lt, nltb→le}
+use lib.IntN.{ℤ, pos, negsuc, negℤ, subℕ, _+ℤ_}
+use lib.Signed.{mag}
+
+cond-cases {ℓ} : {A : Type 0} (Q : A → Type ℓ) {x y : A} (t : Bool) → (T t → Q x) → (T (not t) → Q y) → Q (cond t x y)
+cond-cases Q true less more = less tt
+cond-cases Q false less more = more tt
+
+-- A difference is below zero, or it is not.
+pub cases {ℓ} : (Q : ℤ → Type ℓ) (a b : ℕ) → (a < b → Q (negsuc (b - suc a))) → (b ≤ a → Q (pos (a - b))) → Q (subℕ a b)
+cases Q a b less more = cond-cases Q (ltb a b) (λ t. less (ltb→lt a b t)) (λ t. more (nltb→le a b t))
+
+pub is-pos : (n a b : ℕ) → n + b ≡ a → pos n ≡ subℕ a b
+is-pos n a b e = cases (λ z. pos n ≡ z) a b (λ l. absurd (omega arith)) (λ l. ap pos (omega arith))
+
+pub is-negsuc : (n a b : ℕ) → suc n + a ≡ b → negsuc n ≡ subℕ a b
+is-negsuc n a b e = cases (λ z. negsuc n ≡ z) a b (λ l. ap negsuc (omega arith)) (λ l. absurd (omega arith))
+
+-- Two differences are equal where the crossed sums are.
+pub same : (a b c d : ℕ) → a + d ≡ c + b → subℕ a b ≡ subℕ c d
+same a b c d e = cases (λ z. z ≡ subℕ c d) a b (λ l. is-negsuc _ c d (omega arith)) (λ l. is-pos _ c d (omega arith))
+
+pub add : (a b c d : ℕ) → subℕ a b +ℤ subℕ c d ≡ subℕ (a + c) (b + d)
+add a b c d =
+    cases (λ z. z +ℤ subℕ c d ≡ subℕ (a + c) (b + d)) a b
+    (λ l.
+    cases (λ z. negsuc (b - suc a) +ℤ z ≡ subℕ (a + c) (b + d)) c d
+    (λ m. is-negsuc (suc (b - suc a + (d - suc c))) (a + c) (b + d) (omega arith))
+    (λ m. same (c - d) (suc (b - suc a)) (a + c) (b + d) (omega arith)))
+    (λ l.
+    cases (λ z. pos (a - b) +ℤ z ≡ subℕ (a + c) (b + d)) c d
+    (λ m. same (a - b) (suc (d - suc c)) (a + c) (b + d) (omega arith))
+    (λ m. is-pos (a - b + (c - d)) (a + c) (b + d) (omega arith)))
+
+minus-pos : (n a b : ℕ) → n + a ≡ b → negℤ (pos n) ≡ subℕ a b
+minus-pos zero a b e = is-pos 0 a b (omega arith)
+minus-pos (suc n) a b e = is-negsuc n a b e
+
+-- The negative of a difference is the difference the other way round.
+pub minus : (a b : ℕ) → negℤ (subℕ a b) ≡ subℕ b a
+minus a b = cases (λ z. negℤ z ≡ subℕ b a) a b (λ l. is-pos (suc (b - suc a)) b a (omega arith)) (λ l. minus-pos (a - b) b a (omega arith))
+
+-- A difference of numbers less than h apart lies within h.
+pub bounded : (h a b : ℕ) → a < b + h → b ≤ a + h → mag (subℕ a b) < h
+bounded h a b l r = cases (λ z. mag z < h) a b (λ m. omega arith) (λ m. omega arith)

@@ -1,0 +1,4 @@
+pub mod Branches
+pub mod Tests
+pub mod Powers
+pub mod Differences

@@ -1,0 +1,1 @@
+// No code: the laws that the toolchain's library lacks, in proofs/.

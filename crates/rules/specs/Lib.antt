@@ -1,0 +1,14 @@
+pub mod Bytes
+pub mod Numbers
+pub mod Tables
+pub mod Width
+pub mod Pattern
+pub mod Boundaries
+pub mod Power
+pub mod Product
+pub mod Scaled
+pub mod Digits
+pub mod Layout
+pub mod Text
+pub mod Reading
+pub mod Answer
