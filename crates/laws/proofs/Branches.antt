@@ -39,6 +39,11 @@ and-not-left true true x y = y
 and-not-left true false x y = absurd x
 and-not-left false b x y = tt
 
+-- Where `&&` fails though the first test passes, the second fails.
+pub and-not-right : (a b : Bool) → T a → T (not (a && b)) → T (not b)
+and-not-right true b x y = y
+and-not-right false b x y = absurd x
+
 -- Of two numbers one is below the other or not.
 pub which : (a b : ℕ) → (a < b) ⊎ (b ≤ a)
 which a b = told (ltb a b) (ltb→lt a b) (nltb→le a b)

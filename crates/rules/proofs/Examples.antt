@@ -17,7 +17,7 @@ use Rattle.rules.specs.Power.{leastTen, jRaised, j, k, index}
 use Rattle.rules.specs.Product.{product}
 use Rattle.rules.specs.Scaled.{scaled, D}
 use Rattle.rules.specs.Digits.{above, under, placesUnder, places, c, first, closer, falls, decimal}
-use Rattle.rules.specs.Layout.{zeros, joined, trimmed, oneKept, decimals, exponent, layout}
+use Rattle.rules.specs.Layout.{zeros, joined, trimmed, oneKept, decimals, exponent, scientific, byRule, layout}
 use Rattle.rules.specs.Text.{shown, signed, text}
 use Rattle.rules.specs.Reading.{same}
 use Rattle.rules.specs.Answer.{Entry, every, finiteOnly, refuses, number, answer, after}
@@ -141,5 +141,5 @@ list =
     ∷ []
 
 pub examples : T (all list)
-unfolding all holds equal buffer joins list bytes countUpTo count numeral plain raised significands32 exponents32 significands64 exponents64 w32 w64 off negative biased significand allOnes special magnitude shifted upper below lower value leastTen jRaised j k index product scaled D above under placesUnder places c first closer falls decimal zeros joined trimmed oneKept decimals exponent layout shown signed text same refuses number answer after
+unfolding all holds equal buffer joins list bytes countUpTo count numeral plain raised significands32 exponents32 significands64 exponents64 w32 w64 off negative biased significand allOnes special magnitude shifted upper below lower value leastTen jRaised j k index product scaled D above under placesUnder places c first closer falls decimal zeros joined trimmed oneKept decimals exponent scientific byRule layout shown signed text same refuses number answer after
 examples = tt

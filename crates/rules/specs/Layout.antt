@@ -37,11 +37,17 @@ unfoldable pub exponent : ℤ → List ℕ
 exponent (pos n) = plain n
 exponent (negsuc n) = minus ∷ plain (natAbs (negsuc n))
 
--- The digits' bytes and k, with kk = len + k. The first rule that holds.
-unfoldable pub layout : List ℕ → ℤ → List ℕ
-layout ds k =
-    let len = length ds in
-    let kk = pos len +ℤ k in
+-- Rules 5 and 6: a digit by itself, or the first digit, a point and the others; then `e` and an exponent.
+unfoldable pub scientific : List ℕ → ℤ → List ℕ
+scientific ds e =
+    elim (eqb (length ds) 1) [
+      | true ↦ ds ++ (letterE ∷ exponent e)
+      | false ↦ take 1 ds ++ (point ∷ (drop 1 ds ++ (letterE ∷ exponent e)))
+    ]
+
+-- Digits laid out by k and kk: the first rule that holds.
+unfoldable pub byRule : List ℕ → ℤ → ℤ → List ℕ
+byRule ds k kk =
     elim (leZ (pos 0) k && leZ kk (pos 21)) [
       | true ↦ ds ++ (zeros (natAbs k) ++ bytes ".0")
       | false ↦
@@ -50,15 +56,11 @@ layout ds k =
             | false ↦
                 elim (ltZ (neg 6) kk && leZ kk (pos 0)) [
                   | true ↦ byte0 ∷ point ∷ decimals (zeros (natAbs kk) ++ ds)
-                  | false ↦
-                      elim (ltZ kk (neg 324)) [
-                        | true ↦ bytes "0.0"
-                        | false ↦
-                            elim (eqb len 1) [
-                              | true ↦ ds ++ (letterE ∷ exponent (kk -ℤ pos 1))
-                              | false ↦ take 1 ds ++ (point ∷ (drop 1 ds ++ (letterE ∷ exponent (kk -ℤ pos 1))))
-                            ]
-                      ]
+                  | false ↦ elim (ltZ kk (neg 324)) [ true ↦ bytes "0.0" | false ↦ scientific ds (kk -ℤ pos 1) ]
                 ]
           ]
     ]
+
+-- The layout of the digits' bytes, `len` of them, and the exponent k, with kk = len + k.
+unfoldable pub layout : List ℕ → ℤ → List ℕ
+layout ds k = byRule ds k (pos (length ds) +ℤ k)

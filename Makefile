@@ -1,0 +1,14 @@
+# make run    prove the rules and show the proved examples, patterns and texts side by side
+# make test   the gate: the layout of every file, then all proofs, must-fail edits and programs from nothing
+
+.PHONY: run test
+
+run:
+	rt check
+	@echo
+	@echo 'Patterns and the texts that they are proved to print:'
+	@sed -n 's/^ *∷ prints w\([0-9]*\) 0x\([0-9a-f]*\) "\(.*\)"$$/  f\1  \2  \3/p' crates/rules/proofs/Examples.antt
+
+test:
+	rt fmt --check
+	rt ci
