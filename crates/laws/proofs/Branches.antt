@@ -12,6 +12,11 @@ pub either {ℓ κ} : {A : Type ℓ} (Q : A → Type κ) {x y : A} (t : Bool) �
 either Q true yes-side no-side = yes-side tt
 either Q false yes-side no-side = no-side tt
 
+-- A test that passes takes its first branch, whatever the other.
+pub taken {ℓ} : {A : Type ℓ} {x z : A} (y : A) (t : Bool) → T t → x ≡ z → elim t as (λ _. A) [ true ↦ x | false ↦ y ] ≡ z
+taken y true h e = e
+taken y false h e = absurd h
+
 -- The outcome of a test, as an equation.
 pub is-true : (t : Bool) → T t → t ≡ true
 is-true true h = refl

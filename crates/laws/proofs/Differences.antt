@@ -1,7 +1,7 @@
 -- Whole numbers as differences of naturals: `subℕ a b` is a - b. Each sum, order and equation of differences becomes one of naturals,
 -- which `omega` reads. Assumes nothing.
 use mathlib.Core.Bool.{Bool, true, false, not, cond}
-use mathlib.Core.Path.{_≡_, refl, ap}
+use mathlib.Core.Path.{_≡_, sym, ap}
 use Prim.Native.Nat.{ℕ, zero, suc, _+_, _-_, _≤_, _<_}
 use native.Mathlib.Omega.{arith}
 use lib.Dec.{T, ltb, ltb→lt, nltb→le}
@@ -25,6 +25,20 @@ is-negsuc n a b e = cases (λ z. negsuc n ≡ z) a b (λ l. ap negsuc (omega ari
 -- Two differences are equal where the crossed sums are.
 pub same : (a b c d : ℕ) → a + d ≡ c + b → subℕ a b ≡ subℕ c d
 same a b c d e = cases (λ z. z ≡ subℕ c d) a b (λ l. is-negsuc _ c d (omega arith)) (λ l. is-pos _ c d (omega arith))
+
+apart : (m n : ℕ) → negsuc m ≡ pos n → ⊥
+apart m n e = let z : _≡_ {A = ℕ} 0 1 = cc in omega arith
+
+-- The crossed sums of two equal differences are equal.
+pub crossed : (a b c d : ℕ) → subℕ a b ≡ subℕ c d → a + d ≡ c + b
+crossed a b c d =
+    cases (λ z. z ≡ subℕ c d → a + d ≡ c + b) a b
+    (λ l.
+    cases (λ z. negsuc (b - suc a) ≡ z → a + d ≡ c + b) c d (λ m e. omega (arith, ap mag e))
+    (λ m e. absurd (apart (b - suc a) (c - d) e)))
+    (λ l.
+    cases (λ z. pos (a - b) ≡ z → a + d ≡ c + b) c d (λ m e. absurd (apart (d - suc c) (a - b) (sym e)))
+    (λ m e. omega (arith, ap mag e)))
 
 pub add : (a b c d : ℕ) → subℕ a b +ℤ subℕ c d ≡ subℕ (a + c) (b + d)
 add a b c d =
