@@ -1,3 +1,4 @@
 pub mod Counting
 pub mod Places
+pub mod Few
 pub mod Examples

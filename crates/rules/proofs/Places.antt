@@ -142,6 +142,13 @@ falls-within f (suc fuel) rest h =
 pub unit-pos : {b : Scaled} {f : Place} {rest digits : ℕ} → Fits b f rest digits → 0 < f .unit
 unit-pos {b} {f} fits = rw (fits .unit) (mul-pos (ten-pos (f .up)) (pow-pos (b .x)))
 
+-- The room of a place that is taken is below ten units.
+pub room-less : {b : Scaled} {f : Place} → Taken b f → f .room < 10 * f .unit
+room-less {b} {f} taken = omega (arith, taken .before, taken .rest-less, mul-le-mul-right (f .unit) digit)
+  where
+    digit : f .digits % 10 ≤ 9
+    digit = omega arith
+
 module _ {b : Scaled} (apart : b .L < b .H) {f : Place} {rest digits : ℕ} (fits : Fits b f rest digits) where
   -- Digits that fall, and a rest that grows by as many units, fit while the rest stays within the room.
   pub falls-fit : (n : ℕ) → rest + n * f .unit ≤ f .room → Fits b f (rest + n * f .unit) (digits - n)
