@@ -1,4 +1,5 @@
 pub mod Counting
 pub mod Places
 pub mod Few
+pub mod LastDigit
 pub mod Examples
