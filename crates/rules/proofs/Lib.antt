@@ -1,4 +1,7 @@
 pub mod Counting
+pub mod Places
+pub mod Few
+pub mod LastDigit
 pub mod Examples
 pub mod LaidOut
 pub mod Runs
