@@ -5,3 +5,4 @@ pub mod LastDigit
 pub mod Examples
 pub mod LaidOut
 pub mod Runs
+pub mod LayoutReads
