@@ -128,11 +128,11 @@ says-moved {t} {v} {a} {b} up down e s =
     }
 
 -- A text that is no longer cut behind the point.
-uncut : (ds : List ℕ) → length ds ≤ 324 → decimals ds ≡ ds
+pub uncut : (ds : List ℕ) → length ds ≤ 324 → decimals ds ≡ ds
 unfolding decimals
 uncut ds h = either (λ (t : List ℕ). t ≡ ds) (ltb 324 (length ds)) (λ t. absurd (omega (arith, ltb→lt 324 (length ds) t))) (λ t. refl)
 
-length-zeros : (n : ℕ) → length (zeros n) ≡ n
+pub length-zeros : (n : ℕ) → length (zeros n) ≡ n
 unfolding zeros
 length-zeros n = length-replicate n byte0
 

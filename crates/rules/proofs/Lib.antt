@@ -6,3 +6,4 @@ pub mod Examples
 pub mod LaidOut
 pub mod Runs
 pub mod LayoutReads
+pub mod LayoutLength
