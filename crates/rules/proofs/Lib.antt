@@ -1,3 +1,5 @@
 pub mod Examples
 pub mod Table
 pub mod Product
+pub mod Widths
+pub mod Power

@@ -1,7 +1,7 @@
 -- The rule of the tables: every entry lies within half a unit of the power that it stands for, and fills its N bits. Assumes nothing.
 use Prim.Native.Nat.{ℕ, _+_, _-_, _*_, _^_, _≤_, _<_}
 use lib.Dec.{T}
-use lib.ListN.{length, getD}
+use lib.ListN.{getD}
 use Rattle.laws.proofs.Tests.{Test, le, lt, _and_, Holds, upTo, every}
 use Rattle.rules.specs.Tables.{raised, significands32, exponents32, significands64, exponents64}
 use Rattle.rules.specs.Width.{Width, w32, w64}
