@@ -3,3 +3,4 @@ pub mod Table
 pub mod Product
 pub mod Widths
 pub mod Power
+pub mod Boundaries
