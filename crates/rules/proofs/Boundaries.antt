@@ -11,7 +11,7 @@ use Rattle.laws.proofs.Branches.{either}
 use Rattle.laws.proofs.Powers.{two-halves}
 use Rattle.laws.proofs.Exponents.{lesser-exponent}
 use Rattle.rules.specs.Width.{Width}
-use Rattle.rules.specs.Pattern.{Pair}
+use Rattle.rules.specs.Pattern.{Pair, allOnes}
 use Rattle.rules.specs.Boundaries.{shifted, upper, below, lower, value}
 use Rattle.rules.proofs.Widths.{Sound, top-bit}
 
@@ -55,7 +55,8 @@ same-number {n} {a} {r} s = rw (s .number, mul-assoc, ← pow-add) (ap (λ (e : 
 pub record Finite (w : Width) (m : Pair) : Type 0 where
   pub some : 0 < m .f
   pub fits : m .f < 2 ^ (w .S + 1)
-  pub exponent : w .N < m .exp
+  pub least-exponent : w .N < m .exp
+  pub most-exponent : m .exp < allOnes w + w .N
 
 -- A number shifted until bit n - 1 is set would not fit if it were shifted further.
 no-further : (f n p q : ℕ) → 2 ^ n ≡ 2 * 2 ^ (n - 1) → 2 ^ (n - 1) ≤ f * 2 ^ p → f * 2 ^ q < 2 ^ n → q ≤ p
@@ -96,12 +97,12 @@ module _ (w : Width) (q : ℕ) (s : Sound w q) (m : Pair) (h : Finite w m) where
   unfolding upper
   upper-shifted =
       shifts (w .N) (w .N) (record { f = 2 * m .f + 1; exp = m .exp - 1 }) (top-bit s) (omega (arith, small, small-fits))
-      (filled (2 * m .f + 1) (omega arith)) (omega (arith, h .exponent))
+      (filled (2 * m .f + 1) (omega arith)) (omega (arith, h .least-exponent))
 
   pub value-shifted : Shifted (w .N) m (value w m)
   unfolding value
   value-shifted =
-      shifts (w .N) (w .N) m (top-bit s) (omega (arith, small, small-fits)) (filled (m .f) (h .some)) (omega (arith, h .exponent))
+      shifts (w .N) (w .N) m (top-bit s) (omega (arith, small, small-fits)) (filled (m .f) (h .some)) (omega (arith, h .least-exponent))
 
   -- The upper boundary is shifted at least by N - S - 2.
   pub shift-least : w .N ≤ upper-shifted .by + w .S + 2
@@ -110,6 +111,9 @@ module _ (w : Width) (q : ℕ) (s : Sound w q) (m : Pair) (h : Finite w m) where
       let less : 2 ^ (w .N - 1) < 2 ^ (w .S + 2 + u .by) =
       rw (pow-add 2 (w .S + 2) (u .by)) (omega (arith, u .top, u .number, mul-lt-mul-of-pos-right small (pow-pos (u .by)))) in
       omega (arith, lesser-exponent (w .N - 1) (w .S + 2 + u .by) less)
+
+  pub exponent-most : upper w m .exp ≤ allOnes w + w .S
+  exponent-most = omega (arith, upper-shifted .exponent, shift-least, h .most-exponent)
 
   -- The value is shifted once more: 2f + 1 has one bit more than f.
   pub once-more : value-shifted .by ≡ suc (upper-shifted .by)
@@ -128,7 +132,7 @@ module _ (w : Width) (q : ℕ) (s : Sound w q) (m : Pair) (h : Finite w m) where
 
   -- So upper boundary and value have one exponent.
   pub one-exponent : value w m .exp ≡ upper w m .exp
-  one-exponent = omega (arith, value-shifted .exponent, upper-shifted .exponent, once-more, h .exponent)
+  one-exponent = omega (arith, value-shifted .exponent, upper-shifted .exponent, once-more, h .least-exponent)
 
   -- The exact values of the boundaries.
   pub upper-exact : upper w m .f * 2 ^ upper w m .exp ≡ (2 * m .f + 1) * 2 ^ (m .exp - 1)
@@ -151,6 +155,9 @@ module _ (w : Width) (q : ℕ) (s : Sound w q) (m : Pair) (h : Finite w m) where
 
   pub unit-large : 128 ≤ 2 ^ upper-shifted .by
   unit-large = pow-mono {i = 7} {j = upper-shifted .by} (omega (arith, shift-least, s .deep))
+
+  pub value-apart : value w m .f + 7 ≤ upper w m .f
+  value-apart = omega (arith, value-below, unit-large)
 
   -- And how far the lower boundary lies below.
   pub apart : Apart w q m (lower w m .f)

@@ -4,3 +4,4 @@ pub mod Product
 pub mod Widths
 pub mod Power
 pub mod Boundaries
+pub mod Scale
