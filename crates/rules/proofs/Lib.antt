@@ -7,3 +7,9 @@ pub mod LaidOut
 pub mod Runs
 pub mod LayoutReads
 pub mod LayoutLength
+pub mod Table
+pub mod Product
+pub mod Widths
+pub mod Power
+pub mod Boundaries
+pub mod Scale

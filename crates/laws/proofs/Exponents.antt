@@ -1,0 +1,10 @@
+-- The order of exponents from the order of powers of two. Assumes nothing.
+use mathlib.Core.Logic.{⊎-elim}
+use Prim.Native.Nat.{ℕ, _^_, _<_}
+use native.Mathlib.Omega.{arith}
+use lib.Pow.{pow-mono}
+use Rattle.laws.proofs.Branches.{which}
+
+-- Of two powers of two the lesser has the lesser exponent.
+pub lesser-exponent : (i j : ℕ) → 2 ^ i < 2 ^ j → i < j
+lesser-exponent i j less = ⊎-elim (λ l. l) (λ more. absurd (omega (arith, pow-mono {i = j} {j = i} more))) (which i j)
