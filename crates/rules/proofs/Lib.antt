@@ -1,1 +1,4 @@
 pub mod Examples
+pub mod Units
+pub mod Readable
+pub mod Worth
