@@ -2,3 +2,5 @@ pub mod Examples
 pub mod Units
 pub mod Readable
 pub mod Worth
+pub mod Rounding
+pub mod Unbounded
