@@ -4,3 +4,4 @@ pub mod Readable
 pub mod Worth
 pub mod Rounding
 pub mod Unbounded
+pub mod Nearest
