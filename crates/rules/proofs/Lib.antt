@@ -5,3 +5,4 @@ pub mod Worth
 pub mod Rounding
 pub mod Unbounded
 pub mod Nearest
+pub mod Order
