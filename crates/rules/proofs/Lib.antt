@@ -6,3 +6,4 @@ pub mod Rounding
 pub mod Unbounded
 pub mod Nearest
 pub mod Order
+pub mod Midpoints
