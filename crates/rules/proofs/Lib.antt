@@ -7,3 +7,4 @@ pub mod Unbounded
 pub mod Nearest
 pub mod Order
 pub mod Midpoints
+pub mod Decoding
