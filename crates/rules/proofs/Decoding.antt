@@ -114,7 +114,8 @@ module _ (f : Format) (w : Width) (g : Agree f w) where
     unfolding special
     special-is t = fields-are ∙ special-fields (negative w v) (biased w v) (significand w v) (rw (g .all-ones) t)
 
-    finite-is : T (not (special w v)) → HasValue (ofBits f v) (negative w v) (unitsOf (w .S) (bare w v)) (2 ^ Ieee.low f)
+    -- A number is so many of the smallest values.
+    pub finite-is : T (not (special w v)) → HasValue (ofBits f v) (negative w v) (unitsOf (w .S) (bare w v)) (2 ^ Ieee.low f)
     unfolding special bare
     finite-is t =
         rw fields-are (finite-fields (negative w v) (biased w v) (significand w v) (significand-small w v) (rw (g .all-ones) t))

@@ -8,3 +8,5 @@ pub mod Nearest
 pub mod Order
 pub mod Midpoints
 pub mod Decoding
+pub mod Signs
+pub mod Ieee

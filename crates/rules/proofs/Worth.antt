@@ -1,11 +1,11 @@
 -- A pattern's worth is its units times a constant, and so is how far it is from a fraction. Assumes nothing.
-use mathlib.Core.Path.{_≡_, sym, ap}
-use Prim.Native.Nat.{ℕ, suc, _+_, _-_, _*_, _^_, _≤_, _<_}
-use native.Mathlib.Nat.{mod-lt, pos-of-ne-zero, mul-assoc, mul-add, mul-sub}
+use mathlib.Core.Path.{_≡_, sym, ap, _∙_}
+use Prim.Native.Nat.{ℕ, suc, _+_, _-_, _*_, _%_, _^_, _≤_, _<_}
+use native.Mathlib.Nat.{mod-lt, mod-eq-of-lt, pos-of-ne-zero, mul-assoc, mul-add, mul-sub}
 use native.Mathlib.Omega.{arith}
 use lib.Dec.{eqb, eqb→eq, T-not}
 use lib.Ieee.Fits.{eq→eqb}
-use lib.Pow.{pow-pos, pow-add, recompose, high-ones}
+use lib.Pow.{pow-pos, pow-add, mod-pow-add, high-ones}
 use Rattle.laws.proofs.Branches.{either}
 use Rattle.laws.proofs.Powers.{monomials}
 use Rattle.rules.specs.Width.{Width, off}
@@ -59,9 +59,13 @@ module _ (w : Width) (r : Readable w) where
       let b : 2 ^ (w .bits - 1 - w .S + w .S) ≡ 2 ^ (w .bits - 1) = ap (λ (x : ℕ). 2 ^ x) split-bits in
       omega (arith, high-ones (w .bits - 1 - w .S) (w .S), pow-pos (w .S), pow-pos (w .bits - 1))
 
-  pub bare-is : (v : ℕ) → v < 2 ^ (w .bits - 1) → bare w v ≡ v
+  -- Without its sign a pattern is what lies below the sign's weight.
+  pub bare-rest : (v : ℕ) → bare w v ≡ v % 2 ^ (w .bits - 1)
   unfolding biased significand bare
-  bare-is v h = recompose (w .bits - 1 - w .S) (w .S) (rw split-bits h)
+  bare-rest v = sym (rw split-bits at (mod-pow-add v (w .bits - 1 - w .S) (w .S)))
+
+  pub bare-is : (v : ℕ) → v < 2 ^ (w .bits - 1) → bare w v ≡ v
+  bare-is v h = bare-rest v ∙ mod-eq-of-lt h
 
   -- Up to the infinity a pattern is its own units.
   pub worth-units : (v : ℕ) → v ≤ infinity w → worth w v ≡ unitsOf (w .S) v * 2 ^ (w .N + 1)
