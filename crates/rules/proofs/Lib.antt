@@ -13,3 +13,14 @@ pub mod Widths
 pub mod Power
 pub mod Boundaries
 pub mod Scale
+pub mod Units
+pub mod Readable
+pub mod Worth
+pub mod Rounding
+pub mod Unbounded
+pub mod Nearest
+pub mod Order
+pub mod Midpoints
+pub mod Decoding
+pub mod Signs
+pub mod Ieee

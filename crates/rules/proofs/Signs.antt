@@ -1,0 +1,39 @@
+-- From a pattern with a sign come back the sign and the pattern without it. Assumes nothing.
+use mathlib.Core.Bool.{Bool, true, false}
+use mathlib.Core.Path.{_≡_, _∙_}
+use Prim.Native.Nat.{ℕ, _+_, _-_, _*_, _^_, _<_}
+use native.Mathlib.Nat.{div-eq-of-lt, mod-eq-of-lt}
+use native.Mathlib.Omega.{arith}
+use lib.Arith.{digits-div, digits-mod}
+use Rattle.laws.proofs.Powers.{two-halves}
+use Rattle.rules.specs.Width.{Width}
+use Rattle.rules.specs.Pattern.{negative}
+use Rattle.rules.specs.Reading.{worth, withSign}
+use Rattle.rules.proofs.Readable.{Readable}
+use Rattle.rules.proofs.Worth.{bare, bare-rest, worth-bare}
+
+module _ (w : Width) (r : Readable w) (v : ℕ) (h : v < 2 ^ (w .bits - 1)) where
+  one-sign : 2 ^ (w .bits - 1) + v ≡ 1 * 2 ^ (w .bits - 1) + v
+  one-sign = omega arith
+
+  -- A pattern with a sign has its bits.
+  pub signed-bound : (s : Bool) → withSign w s v < 2 ^ w .bits
+  unfolding withSign
+  signed-bound true = omega (arith, two-halves (w .bits) (omega (arith, r .field)))
+  signed-bound false = omega (arith, two-halves (w .bits) (omega (arith, r .field)))
+
+  -- Its sign is the one that it was given.
+  pub signed-negative : (s : Bool) → negative w (withSign w s v) ≡ s
+  unfolding withSign negative
+  signed-negative true = rw (one-sign, digits-div 1 h)
+  signed-negative false = rw (div-eq-of-lt h)
+
+  -- Without the sign it is what it was.
+  pub signed-bare : (s : Bool) → bare w (withSign w s v) ≡ v
+  unfolding withSign
+  signed-bare true = bare-rest w r (2 ^ (w .bits - 1) + v) ∙ rw one-sign (digits-mod 1 h)
+  signed-bare false = bare-rest w r v ∙ mod-eq-of-lt h
+
+  -- And it is worth what it was.
+  pub signed-worth : (s : Bool) → worth w (withSign w s v) ≡ worth w v
+  signed-worth s = rw (worth-bare w (withSign w s v), worth-bare w v, signed-bare s, bare-rest w r v, mod-eq-of-lt h)
