@@ -1,5 +1,4 @@
--- The boundaries and the value of a finite magnitude: what shifting leaves, their one exponent, their exact values and their distances.
--- Assumes nothing.
+-- A finite magnitude's boundaries and value: one exponent, exact values, and how far apart they are. Assumes nothing.
 use mathlib.Core.Path.{_≡_, sym, ap, _∙_}
 use Prim.Native.Nat.{ℕ, zero, suc, _+_, _-_, _*_, _^_, _≤_, _<_}
 use native.Mathlib.Nat.{lt-of-mul-lt-mul-left, le-of-suc-le-suc, mul-one, mul-assoc, add-zero, pow-succ', mul-le-mul-left, mul-le-mul-right, mul-lt-mul-of-pos-right, lt-of-mul-lt-mul-right}
@@ -92,13 +91,14 @@ module _ (w : Width) (q : ℕ) (s : Sound w q) (m : Pair) (h : Finite w m) where
   filled : (f : ℕ) → 0 < f → 2 ^ (w .N - 1) ≤ f * 2 ^ w .N
   filled f some = omega (arith, mul-le-mul-right (2 ^ w .N) some, top-bit s)
 
-  -- The upper boundary and the value are their numbers, shifted.
+  -- The upper boundary is its number, shifted.
   pub upper-shifted : Shifted (w .N) (record { f = 2 * m .f + 1; exp = m .exp - 1 }) (upper w m)
   unfolding upper
   upper-shifted =
       shifts (w .N) (w .N) (record { f = 2 * m .f + 1; exp = m .exp - 1 }) (top-bit s) (omega (arith, small, small-fits))
       (filled (2 * m .f + 1) (omega arith)) (omega (arith, h .least-exponent))
 
+  -- So is the value.
   pub value-shifted : Shifted (w .N) m (value w m)
   unfolding value
   value-shifted =
@@ -106,87 +106,97 @@ module _ (w : Width) (q : ℕ) (s : Sound w q) (m : Pair) (h : Finite w m) where
 
   -- The upper boundary is shifted at least by N - S - 2.
   pub shift-least : w .N ≤ upper-shifted .by + w .S + 2
-  shift-least =
-      let u = upper-shifted in
-      let less : 2 ^ (w .N - 1) < 2 ^ (w .S + 2 + u .by) =
-      rw (pow-add 2 (w .S + 2) (u .by)) (omega (arith, u .top, u .number, mul-lt-mul-of-pos-right small (pow-pos (u .by)))) in
-      omega (arith, lesser-exponent (w .N - 1) (w .S + 2 + u .by) less)
+  shift-least = omega (arith, lesser-exponent (w .N - 1) (w .S + 2 + upper-shifted .by) (rw (pow-add 2 (w .S + 2) (upper-shifted .by)) less))
+    where
+      less : 2 ^ (w .N - 1) < 2 ^ (w .S + 2) * 2 ^ upper-shifted .by
+      less = omega (arith, upper-shifted .top, upper-shifted .number, mul-lt-mul-of-pos-right small (pow-pos (upper-shifted .by)))
 
+  -- So its exponent is no more than that of the largest finite magnitude's.
   pub exponent-most : upper w m .exp ≤ allOnes w + w .S
   exponent-most = omega (arith, upper-shifted .exponent, shift-least, h .most-exponent)
 
   -- The value is shifted once more: 2f + 1 has one bit more than f.
   pub once-more : value-shifted .by ≡ suc (upper-shifted .by)
-  once-more =
-      let u = upper-shifted in
-      let v = value-shifted in
-      let least : suc (u .by) ≤ v .by =
-      no-further (m .f) (w .N) (v .by) (suc (u .by)) (top-bit s) (omega (arith, v .top, v .number))
-      (rw pow-succ' (omega (arith, u .fits, u .number))) in
-      let half : 2 ^ v .by ≡ 2 * 2 ^ (v .by - 1) = two-halves (v .by) (omega arith) in
-      let most : v .by - 1 ≤ u .by =
-      no-further (2 * m .f + 1) (w .N) (u .by) (v .by - 1) (top-bit s) (omega (arith, u .top, u .number))
-      (omega
-      (arith, next-fits (m .f) (w .N) (v .by) (h .some) (omega (arith, v .fits, v .number)), ap (λ (z : ℕ). m .f * z) half, pow-pos (v .by - 1))) in
-      omega arith
+  once-more = omega (arith, least, most)
+    where
+      u : Shifted (w .N) (record { f = 2 * m .f + 1; exp = m .exp - 1 }) (upper w m)
+      u = upper-shifted
+
+      v : Shifted (w .N) m (value w m)
+      v = value-shifted
+
+      least : suc (u .by) ≤ v .by
+      least =
+          no-further (m .f) (w .N) (v .by) (suc (u .by)) (top-bit s) (omega (arith, v .top, v .number))
+          (rw pow-succ' (omega (arith, u .fits, u .number)))
+
+      most : v .by - 1 ≤ u .by
+      most =
+          let half : 2 ^ v .by ≡ 2 * 2 ^ (v .by - 1) = two-halves (v .by) (omega (arith, least)) in
+          let next = next-fits (m .f) (w .N) (v .by) (h .some) (omega (arith, v .fits, v .number)) in
+          no-further (2 * m .f + 1) (w .N) (u .by) (v .by - 1) (top-bit s) (omega (arith, u .top, u .number))
+          (omega (arith, next, ap (λ (z : ℕ). m .f * z) half, pow-pos (v .by - 1)))
 
   -- So upper boundary and value have one exponent.
   pub one-exponent : value w m .exp ≡ upper w m .exp
   one-exponent = omega (arith, value-shifted .exponent, upper-shifted .exponent, once-more, h .least-exponent)
 
-  -- The exact values of the boundaries.
+  -- The exact value of the upper boundary.
   pub upper-exact : upper w m .f * 2 ^ upper w m .exp ≡ (2 * m .f + 1) * 2 ^ (m .exp - 1)
   upper-exact = same-number upper-shifted
 
   below-exponent : upper w m .exp ≤ below w m .exp
   unfolding below
   below-exponent =
-      either (λ (a : Pair). upper w m .exp ≤ a .exp) (eqb (m .f) (2 ^ w .S)) (λ t. omega (arith, upper-shifted .exponent, shift-least, s .deep))
-      (λ t. omega (arith, upper-shifted .exponent))
+      let low : upper w m .exp + 2 ≤ m .exp = omega (arith, upper-shifted .exponent, shift-least, s .deep) in
+      either (λ (a : Pair). upper w m .exp ≤ a .exp) (eqb (m .f) (2 ^ w .S)) (λ t. omega arith) (λ t. omega arith)
 
+  -- The exact value of the lower boundary.
   pub lower-exact : lower w m .f * 2 ^ lower w m .exp ≡ below w m .f * 2 ^ below w m .exp
   unfolding lower
   lower-exact = rw (mul-assoc, ← pow-add) (ap (λ (e : ℕ). below w m .f * 2 ^ e) (omega (arith, below-exponent)))
 
-  -- The upper boundary is the value and a unit, and that is large.
-  pub value-below : value w m .f + 2 ^ upper-shifted .by ≡ upper w m .f
-  value-below =
-      rw (value-shifted .number, upper-shifted .number, once-more, pow-succ') (omega arith)
+  -- The upper boundary is one unit above the value, 2 to the power of its shift.
+  pub value-unit : value w m .f + 2 ^ upper-shifted .by ≡ upper w m .f
+  value-unit = rw (value-shifted .number, upper-shifted .number, once-more, pow-succ') (omega arith)
 
-  pub unit-large : 128 ≤ 2 ^ upper-shifted .by
-  unit-large = pow-mono {i = 7} {j = upper-shifted .by} (omega (arith, shift-least, s .deep))
+  -- That is at least 128.
+  pub unit-least : 128 ≤ 2 ^ upper-shifted .by
+  unit-least = pow-mono {i = 7} {j = upper-shifted .by} (omega (arith, shift-least, s .deep))
 
+  -- The value is at least 7 below the upper boundary.
   pub value-apart : value w m .f + 7 ≤ upper w m .f
-  value-apart = omega (arith, value-below, unit-large)
+  value-apart = omega (arith, value-unit, unit-least)
 
-  -- And how far the lower boundary lies below.
+  normal : Apart w q m ((2 * m .f - 1) * 2 ^ (m .exp - 1 - upper w m .exp))
+  normal =
+      let p = 2 * m .f - 1 in
+      let z = 2 ^ upper-shifted .by in
+      let e : m .exp - 1 - upper w m .exp ≡ upper-shifted .by = omega (arith, upper-shifted .exponent) in
+      let u : upper w m .f ≡ (p + 2) * z = upper-shifted .number ∙ ap (λ (n : ℕ). n * z) (omega (arith, h .some)) in
+      rw e
+      record {
+        below-value = omega (arith, value-unit, unit-least);
+        below-upper = rw u (normal-apart p z (10 ^ q) unit-least (omega (arith, small, s .normal, h .some)));
+      }
+
+  narrow : m .f ≡ 2 ^ w .S → Apart w q m ((4 * m .f - 1) * 2 ^ (m .exp - 2 - upper w m .exp))
+  narrow hidden =
+      let p = 4 * m .f - 1 in
+      let y = 2 ^ (upper-shifted .by - 1) in
+      let e : m .exp - 2 - upper w m .exp ≡ upper-shifted .by - 1 = omega (arith, upper-shifted .exponent) in
+      let two : 2 ^ upper-shifted .by ≡ 2 * y = two-halves (upper-shifted .by) (omega (arith, shift-least, s .deep)) in
+      let four : (2 * m .f + 1) * 2 ≡ p + 3 = omega (arith, h .some) in
+      let u : upper w m .f ≡ (p + 3) * y = rw (upper-shifted .number, two, ← mul-assoc, four) in
+      rw e
+      record {
+        below-value = omega (arith, value-unit, unit-least);
+        below-upper = rw u (narrow-apart p y (10 ^ q) (omega (arith, unit-least)) (omega (arith, s .narrow, h .some)));
+      }
+
+  -- How far the lower boundary lies below.
   pub apart : Apart w q m (lower w m .f)
   unfolding lower below
   apart =
       either (λ (a : Pair). Apart w q m (a .f * 2 ^ (a .exp - upper w m .exp))) (eqb (m .f) (2 ^ w .S))
       (λ t. narrow (eqb→eq (m .f) (2 ^ w .S) t)) (λ t. normal)
-    where
-      normal : Apart w q m ((2 * m .f - 1) * 2 ^ (m .exp - 1 - upper w m .exp))
-      normal =
-          let p = 2 * m .f - 1 in
-          let z = 2 ^ upper-shifted .by in
-          let e : m .exp - 1 - upper w m .exp ≡ upper-shifted .by = omega (arith, upper-shifted .exponent) in
-          let u : upper w m .f ≡ (p + 2) * z = upper-shifted .number ∙ ap (λ (n : ℕ). n * z) (omega (arith, h .some)) in
-          rw e
-          record {
-            below-value = omega (arith, u, value-below, unit-large);
-            below-upper = rw u (normal-apart p z (10 ^ q) unit-large (omega (arith, small, s .normal, h .some)));
-          }
-
-      narrow : m .f ≡ 2 ^ w .S → Apart w q m ((4 * m .f - 1) * 2 ^ (m .exp - 2 - upper w m .exp))
-      narrow hidden =
-          let p = 4 * m .f - 1 in
-          let y = 2 ^ (upper-shifted .by - 1) in
-          let e : m .exp - 2 - upper w m .exp ≡ upper-shifted .by - 1 = omega (arith, upper-shifted .exponent) in
-          let double : 2 ^ upper-shifted .by ≡ 2 * y = two-halves (upper-shifted .by) (omega (arith, shift-least, s .deep)) in
-          let u : upper w m .f ≡ (p + 3) * y = upper-shifted .number ∙ rw double (rw (← mul-assoc) (ap (λ (n : ℕ). n * y) (omega (arith, h .some)))) in
-          rw e
-          record {
-            below-value = omega (arith, u, value-below, unit-large);
-            below-upper = rw u (narrow-apart p y (10 ^ q) (omega (arith, unit-large)) (omega (arith, s .narrow, h .some)));
-          }

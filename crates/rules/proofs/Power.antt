@@ -2,7 +2,7 @@
 use mathlib.Core.Path.{_≡_}
 use mathlib.Core.Logic.{⊎-elim}
 use Prim.Native.Nat.{ℕ, zero, suc, _+_, _-_, _*_, _/_, _^_, _≤_, _<_}
-use native.Mathlib.Nat.{mul-le-mul-left, mul-le-mul-right, mul-lt-mul-of-pos-right, pow-le-pow-right, pow-succ', le-trans, lt-of-le-of-lt, zero-lt-suc, add-zero, one-mul, lt-of-mul-lt-mul-right, mul-pos}
+use native.Mathlib.Nat.{mul-le-mul-left, mul-le-mul-right, mul-lt-mul-of-pos-right, pow-succ', le-trans, lt-of-le-of-lt, add-zero, one-mul, lt-of-mul-lt-mul-right, mul-pos}
 use native.Mathlib.Omega.{arith}
 use lib.Dec.{leb, leb→le, nleb→lt}
 use lib.IntN.{pos, natAbs, subℕ, _+ℤ_}
@@ -10,6 +10,7 @@ use lib.ListN.{length, getD}
 use lib.Pow.{pow-pos, pow-add, pow-mono}
 use lib.Signed.{shrZ}
 use Rattle.laws.proofs.Branches.{either, which}
+use Rattle.laws.proofs.Exponents.{lesser-exponent, ten-mono}
 use Rattle.laws.proofs.Differences.{cases, is-pos, same, add}
 use Rattle.laws.proofs.Powers.{ten-pos}
 use Rattle.rules.specs.Width.{Width, off}
@@ -29,13 +30,13 @@ unfolding leastTen
 least zero a b i before end = record { reached = rw add-zero at end; smaller = before }
 least (suc fuel) a b i before end =
     either (Least a b) (leb a (10 ^ i * b)) (λ t. record { reached = leb→le a (10 ^ i * b) t; smaller = before })
-    (λ t. least fuel a b (suc i) (λ l less. further (nleb→lt a (10 ^ i * b) t) l less) (rw ap-suc at end))
+    (λ t. least fuel a b (suc i) (also-here (nleb→lt a (10 ^ i * b) t)) (rw one-later at end))
   where
-    ap-suc : i + suc fuel ≡ suc i + fuel
-    ap-suc = omega arith
+    one-later : i + suc fuel ≡ suc i + fuel
+    one-later = omega arith
 
-    further : 10 ^ i * b < a → (l : ℕ) → l < suc i → 10 ^ l * b < a
-    further short l less = lt-of-le-of-lt (mul-le-mul-right b (pow-le-pow-right {n = 10} (zero-lt-suc 9) {i = l} {j = i} (omega arith))) short
+    also-here : 10 ^ i * b < a → (l : ℕ) → l < suc i → 10 ^ l * b < a
+    also-here short l less = lt-of-le-of-lt (mul-le-mul-right b (ten-mono l i (omega arith))) short
 
 -- A floor division by eight, one added: nothing in it is below zero where r stands for r - 8.
 shifted-eight : (r : ℕ) → natAbs (shrZ (subℕ r 8) 8 +ℤ pos 1) ≡ r / 8
@@ -70,89 +71,107 @@ pub record Reach (w : Width) (E : ℕ) : Type 0 where
 lesser-sum : (a b c d e f : ℕ) → 2 ^ a * (2 ^ b * 2 ^ c) < 2 ^ d * (2 ^ e * 2 ^ f) → a + (b + c) < d + (e + f)
 lesser-sum a b c d e f less =
     let powers : 2 ^ (a + (b + c)) < 2 ^ (d + (e + f)) = simp pow-add less in
-    ⊎-elim (λ l. l) (λ more. absurd (omega (arith, pow-mono {i = d + (e + f)} {j = a + (b + c)} more))) (which (a + (b + c)) (d + (e + f)))
+    lesser-exponent (a + (b + c)) (d + (e + f)) powers
 
--- An entry's significand c, which fills its bits, and the bounds on the power together bound the entry's exponent, here y = 2^exponent, I = 10^(8 * i),
--- t = 2^twos, T = 10^tens, n = 2^N, e = 2^(E + N) and a = 2^off.
-too-large : (c I t T y n e a : ℕ) → HalfUnit c (I * t) (T * y) → n ≤ 2 * c → 2 ^ 30 ≤ n → e * I < 8 * 10 ^ 8 * (T * a) → 0 < t → 0 < T →
+-- An entry's significand c fills its bits, and the power of ten is bounded, so the entry's exponent is. Here y is 2 to that exponent,
+-- I = 10^(8 * i), t = 2^twos, d = 10^tens, n = 2^N, e = 2^(E + N) and a = 2^off.
+most-exponent : (c I t d y n e a : ℕ) → HalfUnit c (I * t) (d * y) → n ≤ 2 * c → 2 ^ 30 ≤ n → e * I < 8 * 10 ^ 8 * (d * a) → 0 < t →
     e * (y * n) < 2 ^ 31 * (a * t)
-too-large c I t T y n e a h top wide most some ten =
-    lt-of-mul-lt-mul-right T
-    (omega (arith, mul-le-mul-left e (h .above), mul-le-mul-right (e * (T * y)) top, mul-lt-mul-of-pos-right most some, mul-le-mul-right (e * (y * T)) wide))
+most-exponent c I t d y n e a half top wide most some =
+    lt-of-mul-lt-mul-right d
+    (omega (
+      arith,
+      mul-le-mul-left e (half .above),
+      mul-le-mul-right (e * (d * y)) top,
+      mul-lt-mul-of-pos-right most some,
+      mul-le-mul-right (e * (y * d)) wide,
+    ))
 
-too-small : (c I t T y n e a : ℕ) → HalfUnit c (I * t) (T * y) → c < n → 8 * (T * a) ≤ e * I → 0 < e * (T * y) →
+least-exponent : (c I t d y n e a : ℕ) → HalfUnit c (I * t) (d * y) → c < n → 8 * (d * a) ≤ e * I → 0 < e * (d * y) →
     8 * (a * t) < e * (y * n)
-too-small c I t T y n e a h fits least some =
-    lt-of-mul-lt-mul-right T
-    (omega (arith, mul-le-mul-left e (h .under), mul-le-mul-right (e * (T * y)) fits, mul-le-mul-right t least))
+least-exponent c I t d y n e a half fits least some =
+    lt-of-mul-lt-mul-right d
+    (omega (arith, mul-le-mul-left e (half .under), mul-le-mul-right (e * (d * y)) fits, mul-le-mul-right t least))
 
--- The least and the most of 2^(E + N) * 10^P, here e * I, from what the search finds: R = 10^r, Q = 10^(r - 1), I = 10^(8 * (r / 8)).
-at-least-eight : (T a e I R : ℕ) → T * 10 ^ 7 * (a * 8) ≤ R * e → R ≤ I * 10 ^ 7 → 8 * (T * a) ≤ e * I
-at-least-eight T a e I R reached near = omega (arith, mul-le-mul-right e near)
+-- What the search finds bounds 2^(E + N) * 10^P, here e * I: now R = 10^r, Q = 10^(r - 1) and I = 10^(8 * (r / 8)).
+at-least-eight : (d a e I R : ℕ) → d * 10 ^ 7 * (a * 8) ≤ R * e → R ≤ I * 10 ^ 7 → 8 * (d * a) ≤ e * I
+at-least-eight d a e I R reached near = omega (arith, mul-le-mul-right e near)
 
-below-eight : (T a e I Q : ℕ) → Q * e < T * 10 ^ 7 * (a * 8) → I ≤ 10 * Q → e * I < 8 * 10 ^ 8 * (T * a)
-below-eight T a e I Q short near = omega (arith, mul-le-mul-right e near)
+below-eight : (d a e I Q : ℕ) → Q * e < d * 10 ^ 7 * (a * 8) → I ≤ 10 * Q → e * I < 8 * 10 ^ 8 * (d * a)
+below-eight d a e I Q short near = omega (arith, mul-le-mul-right e near)
 
 module _ (w : Width) (q : ℕ) (s : Sound w q) (E : ℕ) (finite : E ≤ allOnes w + w .S) where
   enough : 10 ^ (w .tens + 7) * 2 ^ (off w + 3) ≤ 10 ^ (8 * length (w .significands) - 1) * 2 ^ (E + w .N)
-  enough = le-trans (s .last) (mul-le-mul-left (10 ^ (8 * length (w .significands) - 1)) (pow-mono {i = w .N} {j = E + w .N} (omega arith)))
+  enough =
+      le-trans (s .last) (mul-le-mul-left (10 ^ (8 * length (w .significands) - 1)) (pow-mono {i = w .N} {j = E + w .N} (omega arith)))
 
-  -- j is the smallest whole number with 10^j >= 2^(3 - N - E), both sides times 10^(tens + 7) and 2^(E + N).
+  -- j is the smallest whole number with 10^j >= 2^(3 - N - E): both sides times 10^(tens + 7) and 2^(E + N), as in its definition.
   pub j-least : Least (10 ^ (w .tens + 7) * 2 ^ (off w + 3)) (2 ^ (E + w .N)) (jRaised w E)
   unfolding jRaised
   j-least =
       least (3 * w .tens) (10 ^ (w .tens + 7) * 2 ^ (off w + 3)) (2 ^ (E + w .N)) 0 (λ l less. absurd (omega arith))
       (le-trans enough
-      (mul-le-mul-right (2 ^ (E + w .N))
-      (pow-le-pow-right {n = 10} (zero-lt-suc 9) {i = 8 * length (w .significands) - 1} {j = 0 + 3 * w .tens} (omega (arith, s .fuel)))))
+      (mul-le-mul-right (2 ^ (E + w .N)) (ten-mono (8 * length (w .significands) - 1) (0 + 3 * w .tens) (omega (arith, s .fuel)))))
 
-  -- It is past the search's begin, and its entry in the table.
+  -- It is above zero, where the search begins.
   pub j-some : 0 < jRaised w E
   j-some =
       ⊎-elim (λ less. less)
-      (λ none.
-      let zero-is : jRaised w E ≡ 0 = omega arith in
-      let reached = rw (zero-is, one-mul) at (j-least .reached) in
+      (λ more.
+      let none : jRaised w E ≡ 0 = omega arith in
+      let reached = rw (none, one-mul) at (j-least .reached) in
       absurd (omega (arith, s .first, pow-mono {i = E + w .N} {j = allOnes w + w .S + w .N} (omega arith)))) (which 0 (jRaised w E))
 
+  -- Its entry is in the table.
   pub j-inside : jRaised w E < 8 * length (w .significands)
   j-inside =
       ⊎-elim (λ less. less)
       (λ more. absurd (omega (arith, enough, j-least .smaller (8 * length (w .significands) - 1) (omega (arith, j-some)))))
       (which (jRaised w E) (8 * length (w .significands)))
 
-  least-eight : 8 * (10 ^ w .tens * 2 ^ off w) ≤ 2 ^ (E + w .N) * 10 ^ (8 * (jRaised w E / 8))
-  least-eight =
-      let r = jRaised w E in
-      at-least-eight (10 ^ w .tens) (2 ^ off w) (2 ^ (E + w .N)) (10 ^ (8 * (r / 8))) (10 ^ r) (rw (pow-add 10 (w .tens) 7, pow-add 2 (off w) 3) at (j-least .reached))
-      (rw (← pow-add) (pow-le-pow-right {n = 10} (zero-lt-suc 9) {i = r} {j = 8 * (r / 8) + 7} (omega arith)))
+  abbrev i : ℕ
+  i = jRaised w E / 8
 
-  most-eight : 2 ^ (E + w .N) * 10 ^ (8 * (jRaised w E / 8)) < 8 * 10 ^ 8 * (10 ^ w .tens * 2 ^ off w)
-  most-eight =
+  inside : i < length (w .significands)
+  inside = omega (arith, j-inside)
+
+  least-power : 8 * (10 ^ w .tens * 2 ^ off w) ≤ 2 ^ (E + w .N) * 10 ^ (8 * i)
+  least-power =
       let r = jRaised w E in
-      below-eight (10 ^ w .tens) (2 ^ off w) (2 ^ (E + w .N)) (10 ^ (8 * (r / 8))) (10 ^ (r - 1))
+      at-least-eight (10 ^ w .tens) (2 ^ off w) (2 ^ (E + w .N)) (10 ^ (8 * i)) (10 ^ r)
+      (rw (pow-add 10 (w .tens) 7, pow-add 2 (off w) 3) at (j-least .reached))
+      (rw (← pow-add) (ten-mono r (8 * i + 7) (omega arith)))
+
+  most-power : 2 ^ (E + w .N) * 10 ^ (8 * i) < 8 * 10 ^ 8 * (10 ^ w .tens * 2 ^ off w)
+  most-power =
+      let r = jRaised w E in
+      below-eight (10 ^ w .tens) (2 ^ off w) (2 ^ (E + w .N)) (10 ^ (8 * i)) (10 ^ (r - 1))
       (rw (pow-add 10 (w .tens) 7, pow-add 2 (off w) 3) at (j-least .smaller (r - 1) (omega (arith, j-some))))
-      (rw (← pow-succ') (pow-le-pow-right {n = 10} (zero-lt-suc 9) {i = 8 * (r / 8)} {j = suc (r - 1)} (omega (arith, j-some))))
+      (rw (← pow-succ') (ten-mono (8 * i) (suc (r - 1)) (omega (arith, j-some))))
 
-  -- Every exponent of a finite magnitude's upper boundary is served.
-  pub reach : Reach w E
+  least-x : E + w .N + (getD (w .exponents) i 0 + w .N) < 31 + (off w + w .twos)
   unfolding numerator denominator
-  reach =
-      let i = jRaised w E / 8 in
-      let is = index-is w E (s .tens) in
-      let inside : i < length (w .significands) = omega (arith, j-inside) in
+  least-x =
       let entry = s .entry i inside in
+      lesser-sum (E + w .N) (getD (w .exponents) i 0) (w .N) 31 (off w) (w .twos)
+      (most-exponent _ _ _ _ _ _ _ _ (entry .half) (omega (arith, entry .top, top-bit s)) (pow-mono (s .wide)) most-power (pow-pos (w .twos)))
+
+  most-x : 3 + (off w + w .twos) < E + w .N + (getD (w .exponents) i 0 + w .N)
+  unfolding numerator denominator
+  most-x =
       let y = getD (w .exponents) i 0 in
-      let large =
-      lesser-sum (E + w .N) y (w .N) 31 (off w) (w .twos)
-      (too-large _ _ _ _ _ _ _ _ (entry .half) (omega (arith, entry .top, top-bit s)) (pow-mono (s .wide)) most-eight (pow-pos (w .twos)) (ten-pos (w .tens))) in
-      let small =
       lesser-sum 3 (off w) (w .twos) (E + w .N) y (w .N)
-      (too-small _ _ _ _ _ _ _ _ (entry .half) (entry .fits) least-eight (mul-pos (pow-pos (E + w .N)) (mul-pos (ten-pos (w .tens)) (pow-pos y)))) in
+      (least-exponent _ _ _ _ _ _ _ _ (s .entry i inside .half) (s .entry i inside .fits) least-power
+      (mul-pos (pow-pos (E + w .N)) (mul-pos (ten-pos (w .tens)) (pow-pos y))))
+
+  -- Every exponent that a finite magnitude's upper boundary has is served.
+  pub reach : Reach w E
+  reach =
+      let is = index-is w E (s .tens) in
       record {
         inside = rw is inside;
-        least-x = rw is (omega (arith, s .wide));
-        most-x = rw is (omega (arith, s .wide));
-        least-power = rw is least-eight;
-        most-power = rw is most-eight;
+        least-x = rw is (omega (arith, s .wide, least-x));
+        most-x = rw is (omega (arith, s .wide, most-x));
+        least-power = rw is least-power;
+        most-power = rw is most-power;
       }

@@ -1,8 +1,7 @@
--- The product of two significands lies within half a unit of the exact quotient, and with a table's entry within one unit of what the
--- entry stands for; the part that is dropped first changes nothing. Assumes nothing.
+-- A product lies within half a unit of the exact quotient, whatever is dropped first; with a table's entry, within one unit. Assumes nothing.
 use mathlib.Core.Path.{_≡_, ap, _∙_}
-use Prim.Native.Nat.{ℕ, _+_, _-_, _*_, _/_, _^_, _<_}
-use native.Mathlib.Nat.{div-mul-le-self, lt-div-mul-add, div-div-eq-div-mul, add-mul-div-right, mul-div-cancel, mul-le-mul-left, mul-le-mul-right, mul-lt-mul-of-pos-right}
+use Prim.Native.Nat.{ℕ, _+_, _-_, _*_, _/_, _^_, _≤_, _<_}
+use native.Mathlib.Nat.{div-mul-le-self, lt-div-mul-add, div-div-eq-div-mul, add-mul-div-right, mul-div-cancel, le-of-mul-le-mul-right, mul-le-mul-left, mul-le-mul-right, mul-lt-mul-of-pos-right}
 use native.Mathlib.Omega.{arith}
 use lib.Pow.{pow-pos, pow-add}
 use Rattle.laws.proofs.Powers.{two-halves}
@@ -25,7 +24,7 @@ dropped-nothing w a c less =
 
 -- Half of b added before the division rounds to the nearest.
 rounded : (p h b : ℕ) → b ≡ 2 * h → 0 < b → HalfUnit ((p + h) / b) p b
-rounded p h b e some = record { above = omega (arith, div-mul-le-self (p + h) b); under = omega (arith, lt-div-mul-add {a = p + h} some) }
+rounded p h b e some = omega (arith, div-mul-le-self (p + h) b, lt-div-mul-add {a = p + h} some)
 
 -- A product lies within half a unit of the exact quotient.
 pub product-half : (w : Width) (a c : ℕ) → w .dropped < w .N → HalfUnit (product w a c) (a * c) (2 ^ w .N)
@@ -40,7 +39,16 @@ pub record OneUnit (q num den : ℕ) : Type 0 where
 -- Two halves of a unit: c is off by half a unit, and the quotient u * c / b, with u below b, by half a unit more.
 pub one-unit : {c num den q u b : ℕ} → HalfUnit c num den → HalfUnit q (u * c) b → u < b → 0 < den → OneUnit q (u * num) (b * den)
 one-unit {c} {num} {den} {q} {u} {b} t r less some =
-    record {
-      above = omega (arith, mul-le-mul-right den (r .above), mul-le-mul-left u (t .above), mul-lt-mul-of-pos-right less some);
-      under = omega (arith, mul-le-mul-right den (r .under), mul-le-mul-left u (t .under), mul-lt-mul-of-pos-right less some);
-    }
+    omega (
+      arith,
+      mul-le-mul-right den (r .above),
+      mul-le-mul-right den (r .under),
+      mul-le-mul-left u (t .above),
+      mul-le-mul-left u (t .under),
+      mul-lt-mul-of-pos-right less some,
+    )
+
+-- A product by a significand that fills its N bits is no larger than that.
+pub product-most : (w : Width) (a c : ℕ) → w .dropped < w .N → a < 2 ^ w .N → 2 ^ w .N ≤ 2 * c → product w a c ≤ c
+product-most w a c less fits top =
+    le-of-mul-le-mul-right (omega (arith, mul-le-mul-right c fits, product-half w a c less .above)) (pow-pos (w .N))

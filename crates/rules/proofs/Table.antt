@@ -11,10 +11,11 @@ pub record HalfUnit (c num den : ℕ) : Type 0 where
   pub above : 2 * c * den ≤ 2 * num + den
   pub under : 2 * num ≤ 2 * c * den + den
 
--- Entry i stands for 10^P / 2^(its exponent), the fraction 10^(8 * i) * 2^twos over 10^tens * 2^(its exponent with twos added).
+-- Entry i stands for 10^P / 2^(its exponent). With both exponents raised, that is 10^(8 * i) * 2^twos ..
 unfoldable pub numerator : Width → ℕ → ℕ
 numerator w i = 10 ^ (8 * i) * 2 ^ w .twos
 
+-- .. over 10^tens * 2^(the kept exponent).
 unfoldable pub denominator : Width → ℕ → ℕ
 denominator w i = 10 ^ w .tens * 2 ^ getD (w .exponents) i 0
 
@@ -40,11 +41,12 @@ entries w n t i h = told (every (test w) n t i h)
     told : Holds (test w i) → Entry w i
     told (a, (u, (l, f))) = record { half = record { above = a; under = u }; top = l; fits = f }
 
--- Both tables, entry by entry.
+-- The 12 entries of 32 bits.
 pub table32 : (i : ℕ) → i < 12 → Entry w32 i
 unfolding numerator denominator w32 raised significands32 exponents32
 table32 = entries w32 12 tt
 
+-- The 87 entries of 64 bits.
 pub table64 : (i : ℕ) → i < 87 → Entry w64 i
 unfolding numerator denominator w64 raised significands64 exponents64
 table64 = entries w64 87 tt

@@ -13,21 +13,23 @@ use Rattle.rules.proofs.Table.{Entry, numerator, denominator, entries, 
 
 -- A width whose magnitudes print with at most q + 1 digits.
 pub record Sound (w : Width) (q : ℕ) : Type 0 where
-  -- less is dropped first than is added
+  -- a product's dropped part is shorter than N
   pub dropped : w .dropped < w .N
   -- a pair has room for a boundary shifted left by seven
   pub deep : w .S + 9 ≤ w .N
+  -- nine decimal digits fit
   pub wide : 30 ≤ w .N
   -- some biased exponent other than 0 is finite
   pub finite : 2 ≤ allOnes w
-  -- how far apart two magnitudes are, against the larger one, and against a power of two
+  -- q digits are no coarser than the magnitudes: where these are densest, and at a power of two, where the lower side is narrow
   pub normal : 16 * 2 ^ (w .S + 2) ≤ 31 * 10 ^ q
   pub narrow : 2 * 2 ^ w .S + 1 ≤ 10 ^ q
-  -- the table's powers: one before the first, at the largest exponent, is too small, and the last, at the smallest, is enough
+  -- the search for j begins below the largest exponent's, and ends inside the table at the smallest's
   pub tens : 1 ≤ w .tens
   pub first : 2 ^ (allOnes w + w .S + w .N) < 10 ^ (w .tens + 7) * 2 ^ (off w + 3)
   pub last : 10 ^ (w .tens + 7) * 2 ^ (off w + 3) ≤ 10 ^ (8 * length (w .significands) - 1) * 2 ^ w .N
   pub fuel : 8 * length (w .significands) - 1 ≤ 3 * w .tens
+  -- the table's rule
   pub entry : (i : ℕ) → i < length (w .significands) → Entry w i
 
 -- A number of N bits is below twice its highest bit.
@@ -48,7 +50,8 @@ test w q =
     and le (10 ^ (w .tens + 7) * 2 ^ (off w + 3)) (10 ^ (8 * length (w .significands) - 1) * 2 ^ w .N)
     and le (8 * length (w .significands) - 1) (3 * w .tens)
 
-sound : (w : Width) (q : ℕ) → T (run (test w q)) → ((i : ℕ) → i < length (w .significands) → Entry w i) → Sound w q
+-- Where the test passes and the table is as asked, the width is sound.
+pub sound : (w : Width) (q : ℕ) → T (run (test w q)) → ((i : ℕ) → i < length (w .significands) → Entry w i) → Sound w q
 sound w q t entry = told (says (test w q) t)
   where
     told : Holds (test w q) → Sound w q
@@ -67,15 +70,17 @@ sound w q t entry = told (says (test w q) t)
           entry = entry;
         }
 
+-- Binary32, with at most 9 digits.
 pub sound32 : Sound w32 8
 unfolding w32 off allOnes significands32
 sound32 = sound w32 8 tt table32
 
+-- Binary64, with at most 17 digits.
 pub sound64 : Sound w64 16
 unfolding w64 off allOnes significands64
 sound64 = sound w64 16 tt table64
 
--- Binary16 in pairs of 32 bits, with the 32-bit table.
+-- Binary16, in pairs of 32 bits and with their table.
 unfoldable pub w16 : Width
 w16 =
     record {
@@ -90,6 +95,7 @@ w16 =
       exponents = raised 151 exponents32;
     }
 
+-- Binary16, with at most 5 digits.
 pub sound16 : Sound w16 4
 unfolding w16 off allOnes numerator denominator raised significands32 exponents32
 sound16 = sound w16 4 tt (entries w16 12 tt)
