@@ -17,11 +17,13 @@ Compared Ordering·lt a b = a < b
 Compared Ordering·eq a b = a ≡ b
 Compared Ordering·gt a b = b < a
 
+-- `compare` tells how two numbers are ordered.
 pub compared : (a b : ℕ) → Compared (compare a b) a b
 compared a b =
     told (compare a b) (leb→le a b) (nleb→lt a b) (eqb→eq a b) (λ (e : a ≡ b). subst (λ (x : ℕ). T (eqb a x)) e (eqb-refl a))
   where
-    told : (o : Ordering) → (T (isLe o) → a ≤ b) → (T (not (isLe o)) → b < a) → (T (isEq o) → a ≡ b) → (a ≡ b → T (isEq o)) → Compared o a b
+    told : (o : Ordering) → (T (isLe o) → a ≤ b) → (T (not (isLe o)) → b < a) → (T (isEq o) → a ≡ b) → (a ≡ b → T (isEq o)) →
+        Compared o a b
     told Ordering·lt le gt eq same = lt-of-le-ne (le tt) same
     told Ordering·eq le gt eq same = eq tt
     told Ordering·gt le gt eq same = gt tt
@@ -31,6 +33,7 @@ pub record Closest (a b q : ℕ) : Type 0 where
   pub up : 2 * a + q % 2 ≤ 2 * (q * b) + b
   pub down : 2 * (q * b) + q % 2 ≤ 2 * a + b
 
+-- `closest` is so.
 pub is-closest : (a b : ℕ) → 0 < b → Closest a b (closest a b)
 is-closest a b B = by-order (compare (a % b * 2) b) (compared (a % b * 2) b)
   where

@@ -26,6 +26,7 @@ pub record Agree (f : Format) (w : Width) : Type 0 where
   pub all-ones : ones f ≡ allOnes w
   pub sign : Ieee.top f ≡ 2 ^ (w .bits - 1)
 
+-- Binary32 and binary64 are so in both.
 pub agree32 : Agree binary32 w32
 unfolding w32 allOnes
 agree32 = record { readable = readable32; digits = refl; bias = refl; all-ones = refl; sign = refl }
@@ -53,10 +54,11 @@ scaled (inf t) s a c z h = h
 scaled (fin t m e) s a c z h = (h .0, omega (arith, ap (λ (y : ℕ). y * z) (h .1)))
 
 module _ (f : Format) (w : Width) (g : Agree f w) where
-  -- The weight of the exponent's field, and the smallest value.
+  -- The weight of the exponent's field.
   pub hid-is : hid f ≡ 2 ^ w .S
   hid-is = ap (λ (x : ℕ). 2 ^ x) (omega (arith, g .digits))
 
+  -- The smallest value is 2^-low in both.
   pub low-is : Ieee.low f ≡ low w
   unfolding low
   low-is = omega (arith, g .digits, g .bias)
@@ -89,7 +91,8 @@ module _ (f : Format) (w : Width) (g : Agree f w) where
         let l : v / H < 2 = shr-lt 1 (w .bits - 1) (rw (← b) bound) in
         rw (g .sign)
         (same-test (leb H v) (eqb (v / H % 2) 1)
-        (λ t. let q : 1 ≤ v / H = le-div-iff-mul-le pos .1 (omega (arith, leb→le H v t)) in
+        (λ t.
+        let q : 1 ≤ v / H = le-div-iff-mul-le pos .1 (omega (arith, leb→le H v t)) in
         let e : v / H % 2 ≡ 1 = omega arith in
         eq→eqb e)
         (λ t.
@@ -106,7 +109,7 @@ module _ (f : Format) (w : Width) (g : Agree f w) where
     unfolding significand
     digits-is = rw hid-is
 
-    pub fields-are : ofBits f v ≡ ofFields f (negative w v) (biased w v) (significand w v)
+    fields-are : ofBits f v ≡ ofFields f (negative w v) (biased w v) (significand w v)
     unfolding ofBits
     fields-are = rw (sign-is, field-is, digits-is)
 
@@ -126,14 +129,15 @@ module _ (f : Format) (w : Width) (g : Agree f w) where
         record {
           infinite = λ t e. special-is t ∙ rw (is-true (eqb (significand w v) 0) (eq→eqb e));
           notANumber = λ t h.
-              let ne : T (not (eqb (significand w v) 0)) = not-T (eqb (significand w v) 0) (λ z. omega (arith, eqb→eq (significand w v) 0 z)) in
-              special-is t ∙ rw (is-false (eqb (significand w v) 0) ne);
+              let z = eqb (significand w v) 0 in
+              let differs : T (not z) = not-T z (λ e. omega (arith, eqb→eq (significand w v) 0 e)) in
+              special-is t ∙ rw (is-false z differs);
           finite = λ t.
               rw (worth-bare w v, off-units w (g .readable), ← low-is)
               (scaled (ofBits f v) (negative w v) (unitsOf (w .S) (bare w v)) (2 ^ Ieee.low f) (2 ^ (w .N + 1)) (finite-is t));
         }
 
--- Every pattern of 32 and of 64 bits decodes so.
+-- Every pattern of 32 bits, and of 64, decodes so.
 pub decodes32 : (v : ℕ) → v < 2 ^ 32 → Decodes binary32 w32 v
 unfolding w32
 decodes32 v h = decodes binary32 w32 agree32 v h

@@ -1,5 +1,4 @@
--- The nearest pattern is what the toolchain's account of IEEE 754, `lib.Ieee`, rounds to, at 32 and 64 bits: beyond the top, where `nearest` gives
--- the largest finite number, `round` gives an infinity. Assumes nothing.
+-- The nearest pattern up to the top is what the toolchain's account of IEEE 754, `lib.Ieee`, rounds to. Assumes nothing.
 use mathlib.Core.Bool.{Bool, true, false, not, cond}
 use mathlib.Core.Logic.{⊎-elim}
 use mathlib.Core.Path.{_≡_, refl, sym, ap, _∙_}
@@ -47,7 +46,9 @@ number-not-nan (fin t m e) s a c h = tt
 -- From 2^(emax + 1) on it is an infinity.
 overflows : (f : Format) (s : Bool) (q k : ℕ) → 2 ^ (Ieee.low f + suc (emax f)) ≤ q * 2 ^ k → units f s q k ≡ inf s
 unfolding units
-overflows f s q k h = cond-no (ltb (q * 2 ^ k) (2 ^ (Ieee.low f + suc (emax f)))) _ _ (le→nltb (q * 2 ^ k) (2 ^ (Ieee.low f + suc (emax f))) h)
+overflows f s q k h =
+    let t = 2 ^ (Ieee.low f + suc (emax f)) in
+    cond-no (ltb (q * 2 ^ k) t) _ _ (le→nltb (q * 2 ^ k) t h)
 
 module _ (f : Format) (w : Width) (g : Agree f w) where
   -- ---- a pattern below the infinity is finite
@@ -58,18 +59,18 @@ module _ (f : Format) (w : Width) (g : Agree f w) where
       (λ t. omega (arith, ap (λ (x : ℕ). x * 2 ^ w .S) (eqb→eq (biased w v) (allOnes w) t)))
 
   -- A float of so many units writes the pattern of so many units.
-  number-bits : (s : Bool) (v : ℕ) (x : Float) → v < infinity w → HasValue x s (unitsOf (w .S) v) (2 ^ Ieee.low f) → toBits f x ≡ withSign w s v
+  number-bits : (s : Bool) (v : ℕ) (x : Float) → v < infinity w → HasValue x s (unitsOf (w .S) v) (2 ^ Ieee.low f) →
+      toBits f x ≡ withSign w s v
   number-bits s v x l h =
       let p = withSign w s v in
+      let a = unitsOf (w .S) v in
       let plain : v < 2 ^ (w .bits - 1) = no-sign w (g .readable) v (le-of-lt l) in
       let bound : p < 2 ^ w .bits = signed-bound w (g .readable) v plain s in
       let b : bare w p ≡ v = signed-bare w (g .readable) v plain s in
-      let y : HasValue (ofBits f p) s (unitsOf (w .S) v) (2 ^ Ieee.low f) =
-      rw (signed-negative w (g .readable) v plain s, b) at (finite-is f w g p bound (below-finite p (rw b l)))
-      in
-      value-bits f x s (unitsOf (w .S) v) h
-      ∙ sym (value-bits f (ofBits f p) s (unitsOf (w .S) v) y)
-      ∙ toBits-ofBits f p (omega (arith, g .sign, two-halves (w .bits) (omega (arith, g .readable .field)))) (number-not-nan (ofBits f p) s _ _ y)
+      let finite = finite-is f w g p bound (below-finite p (rw b l)) in
+      let y : HasValue (ofBits f p) s a (2 ^ Ieee.low f) = rw (signed-negative w (g .readable) v plain s, b) at finite in
+      let fits : p < 2 * Ieee.top f = omega (arith, g .sign, two-halves (w .bits) (omega (arith, g .readable .field))) in
+      value-bits f x s a h ∙ sym (value-bits f (ofBits f p) s a y) ∙ toBits-ofBits f p fits (number-not-nan (ofBits f p) s _ _ y)
 
   infinity-bits : (s : Bool) → toBits f (inf s) ≡ withSign w s (infinity w)
   unfolding toBits withSign infinity
@@ -80,7 +81,8 @@ module _ (f : Format) (w : Width) (g : Agree f w) where
   infinity-units : unitsOf (w .S) (infinity w) ≡ 2 ^ (Ieee.low f + suc (emax f))
   unfolding infinity
   infinity-units =
-      units-at (w .S) (allOnes w * 2 ^ w .S) (2 * emax f) (2 ^ w .S) (rw (← g .all-ones) (omega arith)) (omega arith) (λ h. le-refl (2 ^ w .S))
+      units-at (w .S) (allOnes w * 2 ^ w .S) (2 * emax f) (2 ^ w .S) (rw (← g .all-ones) (omega arith)) (omega arith)
+      (λ h. le-refl (2 ^ w .S))
       ∙ sym (pow-add 2 (w .S) (2 * emax f)) ∙ ap (λ (x : ℕ). 2 ^ x) (omega (arith, g .digits, g .readable .digits))
 
   -- ---- rounding
@@ -125,7 +127,7 @@ pub nearest-beyond : (w : Width) (n d : ℕ) → top w < unbounded w n d → nea
 unfolding nearest
 nearest-beyond w n d h = omega arith
 
--- ---- the two widths
+-- So it is at both widths.
 pub round32 : (n d : ℕ) → toBits binary32 (round binary32 false n d) ≡ min (infinity w32) (unbounded w32 n d)
 unfolding withSign
 round32 n d = round-bits binary32 w32 agree32 false n d

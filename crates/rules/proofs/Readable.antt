@@ -8,6 +8,7 @@ pub record Readable (w : Width) : Type 0 where
   pub digits : 0 < w .S
   pub field : w .S + 1 < w .bits
 
+-- Binary32 and binary64 have all three.
 pub readable32 : Readable w32
 unfolding w32
 readable32 = record { digits = lit< tt; field = lit< tt }

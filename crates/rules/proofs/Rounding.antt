@@ -1,8 +1,9 @@
--- Rounding a fraction n / d to a rising sequence, ties to the even place: it is the nearest, there is one, and it keeps the order. Assumes nothing.
+-- A fraction rounds to one place of a rising sequence, the nearest, ties to even, and places keep the order of fractions. Assumes nothing.
 use mathlib.Core.Path.{_≡_, refl, sym, ap}
 use mathlib.Core.Logic.{⊎-elim}
 use Prim.Native.Nat.{ℕ, zero, suc, _+_, _-_, _*_, _%_, _≤_, _<_, min}
-use native.Mathlib.Nat.{le-refl, le-of-lt, le-antisymm, le-of-eq, lt-of-lt-of-le, eq-or-lt-of-le, mul-pos, mul-le-mul-right, mul-lt-mul-of-pos-right, min-eq-left, min-eq-right}
+use native.Mathlib.Nat.{le-refl, le-of-lt, le-antisymm, le-of-eq, lt-of-lt-of-le, eq-or-lt-of-le, min-eq-left, min-eq-right}
+use native.Mathlib.Nat.{mul-pos, mul-le-mul-right, mul-lt-mul-of-pos-right}
 use native.Mathlib.Omega.{arith}
 use Rattle.laws.proofs.Branches.{which, three-ways}
 use Rattle.rules.specs.Reading.{apart}
@@ -18,23 +19,24 @@ pub record Best (u : ℕ → ℕ) (n d t v : ℕ) : Type 0 where
   pub nearer : (x : ℕ) → x ≤ t → (x ≡ v → ⊥) → apart n (u v * d) + v % 2 ≤ apart n (u x * d)
 
 module _ (u : ℕ → ℕ) (rise : (v : ℕ) → u v < u (suc v)) where
-  -- Later terms are larger.
-  pub no-fall : (x d : ℕ) → u x ≤ u (x + d)
+  no-fall : (x d : ℕ) → u x ≤ u (x + d)
   no-fall x zero = le-of-eq (ap u (omega arith))
   no-fall x (suc d) = let e : x + suc d ≡ suc (x + d) = omega arith in rw e (omega (arith, no-fall x d, rise (x + d)))
 
+  -- A later term is no smaller.
   pub keeps : {x y : ℕ} → x ≤ y → u x ≤ u y
   keeps {x} {y} h = let e : x + (y - x) ≡ y = omega arith in rw e at (no-fall x (y - x))
 
+  -- A term that comes later is larger.
   pub rises : {x y : ℕ} → x < y → u x < u y
   rises {x} h = lt-of-lt-of-le (rise x) (keeps h)
 
   module _ (n d p : ℕ) (D : 0 < d) (r : Rounds u n d p) where
     -- The midpoint to any later place is above, and to any earlier place below.
-    pub up-to : (x : ℕ) → p < x → 2 * n + p % 2 ≤ (u p + u x) * d
+    up-to : (x : ℕ) → p < x → 2 * n + p % 2 ≤ (u p + u x) * d
     up-to x h = omega (arith, r .up, mul-le-mul-right d (keeps h))
 
-    pub down-to : (x : ℕ) → x < p → (u x + u p) * d + p % 2 ≤ 2 * n
+    down-to : (x : ℕ) → x < p → (u x + u p) * d + p % 2 ≤ 2 * n
     down-to x h =
         let q = p - 1 in
         let l : x ≤ q = omega arith in
@@ -47,8 +49,10 @@ module _ (u : ℕ → ℕ) (rise : (v : ℕ) → u v < u (suc v)) where
         record {
           inside = h;
           nearer = λ x l ne.
-              ⊎-elim (λ less. omega (arith, up-to x less, mul-lt-mul-of-pos-right (rises less) D))
-              (λ more. ⊎-elim (λ e. absurd (ne (sym e))) (λ less. omega (arith, down-to x less, mul-lt-mul-of-pos-right (rises less) D)) more)
+              ⊎-elim (λ later. omega (arith, up-to x later, mul-lt-mul-of-pos-right (rises later) D))
+              (λ rest.
+              ⊎-elim (λ e. absurd (ne (sym e)))
+              (λ earlier. omega (arith, down-to x earlier, mul-lt-mul-of-pos-right (rises earlier) D)) rest)
               (three-ways p x);
         }
 
@@ -71,7 +75,6 @@ module _ (u : ℕ → ℕ) (rise : (v : ℕ) → u v < u (suc v)) where
         (λ l. let e : min t p ≡ p = min-eq-right l in rw e (best-of-all t l))
         (which t p)
 
-  -- Of two places one alone is the best.
   not-both : (n d t v x : ℕ) → 0 < d → v < x → Best u n d t v → Best u n d t x → ⊥
   unfolding apart
   not-both n d t v x D h b c =
@@ -81,10 +84,11 @@ module _ (u : ℕ → ℕ) (rise : (v : ℕ) → u v < u (suc v)) where
       let mid = b .nearer (suc v) (omega (arith, c .inside)) (λ e. omega arith) in
       omega (arith, mul-lt-mul-of-pos-right (rise v) D, mul-lt-mul-of-pos-right (rises far) D)
 
+  -- One place alone is the best.
   pub one-best : (n d t v x : ℕ) → 0 < d → Best u n d t v → Best u n d t x → v ≡ x
   one-best n d t v x D b c =
       ⊎-elim (λ l. absurd (not-both n d t v x D l b c))
-      (λ more. ⊎-elim (λ e. e) (λ l. absurd (not-both n d t x v D l c b)) more)
+      (λ rest. ⊎-elim (λ e. e) (λ l. absurd (not-both n d t x v D l c b)) rest)
       (three-ways v x)
 
   -- ---- the order
@@ -108,9 +112,9 @@ module _ (u : ℕ → ℕ) (rise : (v : ℕ) → u v < u (suc v)) where
       (λ far.
       let q = p - 1 in
       let h : r < q = omega arith in
-      let k : suc r ≤ p = l in
-      let bd = mul-pos B D in
-      omega (arith, mul-le-mul-right d (x .down q (omega arith)), mul-le-mul-right b (y .up), mul-lt-mul-of-pos-right (rises h) bd, mul-le-mul-right (b * d) (keeps k)))
+      let low = mul-le-mul-right d (x .down q (omega arith)) in
+      let high = mul-le-mul-right b (y .up) in
+      omega (arith, mul-lt-mul-of-pos-right (rises h) (mul-pos B D), mul-le-mul-right (b * d) (keeps l)))
       (eq-or-lt-of-le l)
 
   -- The place does not fall as the fraction rises.
@@ -119,4 +123,6 @@ module _ (u : ℕ → ℕ) (rise : (v : ℕ) → u v < u (suc v)) where
 
   -- A fraction rounds to one place.
   pub one-place : (n d p r : ℕ) → 0 < d → Rounds u n d p → Rounds u n d r → p ≡ r
-  one-place n d p r D x y = le-antisymm (order n d n d p r D D x y (le-refl (n * d))) (order n d n d r p D D y x (le-refl (n * d)))
+  one-place n d p r D x y =
+      let same = le-refl (n * d) in
+      le-antisymm (order n d n d p r D D x y same) (order n d n d r p D D y x same)

@@ -2,7 +2,8 @@
 use mathlib.Core.Path.{_≡_, refl, ap}
 use mathlib.Core.Logic.{⊎-elim}
 use Prim.Native.Nat.{ℕ, suc, _+_, _-_, _*_, _/_, _%_, _^_, _≤_, _<_, compare}
-use native.Mathlib.Nat.{le-trans, le-of-eq, eq-or-lt-of-le, mul-pos, mul-le-mul-right, mul-lt-mul-of-pos-right, div-div-eq-div-mul, le-div-iff-mul-le, pow-succ'}
+use native.Mathlib.Nat.{le-trans, le-of-eq, eq-or-lt-of-le, div-div-eq-div-mul, le-div-iff-mul-le, pow-succ'}
+use native.Mathlib.Nat.{mul-pos, mul-le-mul-right, mul-lt-mul-of-pos-right}
 use native.Mathlib.Omega.{arith}
 use lib.Ieee.{size}
 use lib.Ieee.Digits.{size-reaches}
@@ -46,6 +47,7 @@ module _ (s n d : ℕ) where
       let l : 2 ^ s * 2 ^ k ≤ n / d = rw (← pow-add 2 s k) (size-reaches (n / d) (s + k) (omega arith)) in
       rw (← div-div-eq-div-mul n d (2 ^ k)) (le-div-iff-mul-le (pow-pos k) .1 l)
 
+  -- What is kept then has the hidden bit.
   pub kept-hidden : 0 < cut s n d → 2 ^ s ≤ kept s n d
   unfolding kept
   kept-hidden h = let u = d * 2 ^ cut s n d in le-trans (full h) (nearest-ge (n / u) (compare (n % u * 2) u))
@@ -94,7 +96,7 @@ module _ (s k q v : ℕ) (is : k * 2 ^ s + q ≡ v) (fits : q ≤ 2 * 2 ^ s) (hi
             let le : unitsOf s r < unitsOf s v = rises (unitsOf s) (units-rise s) (le-of-eq e) in
             omega (arith, reached z, mul-lt-mul-of-pos-right le D, mul-le-mul-right (2 ^ k * d) l, ap (λ (x : ℕ). x * d) here)
 
-    pub rounds-at : Rounds (unitsOf s) n d v
+    rounds-at : Rounds (unitsOf s) n d v
     rounds-at =
         record {
           up = omega (arith, near .up, same-parity S, mul-le-mul-right d step-up, ap (λ (x : ℕ). x * d) here);
@@ -115,7 +117,8 @@ module _ (w : Width) (r : Readable w) where
 
   -- No other pattern is.
   pub only-unbounded : (n d v : ℕ) → 0 < d → Rounds (unitsOf (w .S)) (n * 2 ^ low w) d v → unbounded w n d ≡ v
-  only-unbounded n d v D h = one-place (unitsOf (w .S)) (units-rise (w .S)) (n * 2 ^ low w) d (unbounded w n d) v D (unbounded-rounds n d D) h
+  only-unbounded n d v D h =
+      one-place (unitsOf (w .S)) (units-rise (w .S)) (n * 2 ^ low w) d (unbounded w n d) v D (unbounded-rounds n d D) h
 
   -- It does not fall as the fraction rises.
   pub unbounded-mono : (a b c d : ℕ) → 0 < b → 0 < d → a * d ≤ c * b → unbounded w a b ≤ unbounded w c d

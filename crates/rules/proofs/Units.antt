@@ -1,6 +1,5 @@
--- A pattern without a sign as a number of units, the unit being the smallest positive magnitude: the units rise with the pattern.
--- Assumes nothing.
-use mathlib.Core.Path.{_≡_, refl, sym, ap, _∙_}
+-- A pattern without a sign is a number of units, the smallest positive magnitude, and the units rise with it. Assumes nothing.
+use mathlib.Core.Path.{_≡_, refl, ap, _∙_}
 use mathlib.Core.Logic.{⊎-elim}
 use Prim.Native.Nat.{ℕ, zero, suc, _+_, _-_, _*_, _/_, _%_, _^_, _≤_, _<_}
 use native.Mathlib.Nat.{mod-lt, div-add-mod', le-of-lt, eq-or-lt-of-le, pow-succ'}
@@ -18,8 +17,8 @@ module _ (s v : ℕ) where
   field-units : (b f k q : ℕ) → f < 2 ^ s → b * 2 ^ s + f ≡ v → b - 1 ≡ k → k * 2 ^ s + q ≡ v → unitsOf s v ≡ q * 2 ^ k
   unfolding unitsOf
   field-units b f k q h e up is =
-      ap (λ (j : ℕ). (v - j * 2 ^ s) * 2 ^ j)
-      (ap (λ (z : ℕ). z / 2 ^ s - 1) (sym e) ∙ ap (λ (z : ℕ). z - 1) (digits-div b h) ∙ up) ∙ ap (λ (z : ℕ). z * 2 ^ k) (omega arith)
+      let place : v / 2 ^ s - 1 ≡ k = rw (← e, digits-div b h) up in
+      rw place (ap (λ (z : ℕ). z * 2 ^ k) (omega arith))
 
   -- A pattern k * 2^s + q has q units k places up, where q has the hidden bit or k is 0. A carry makes q twice the hidden bit.
   pub units-at : (k q : ℕ) → k * 2 ^ s + q ≡ v → q ≤ 2 * 2 ^ s → (0 < k → 2 ^ s ≤ q) → unitsOf s v ≡ q * 2 ^ k
@@ -49,7 +48,7 @@ pub record Placed (s v : ℕ) : Type 0 where
   pub next : unitsOf s (suc v) ≡ q * 2 ^ k + 2 ^ k
 
 module _ (s : ℕ) where
-  -- What is k * 2^s + q is so placed.
+  -- The place of k * 2^s + q, where q has the hidden bit or k is 0.
   pub place : (k q v : ℕ) → k * 2 ^ s + q ≡ v → q < 2 * 2 ^ s → (0 < k → 2 ^ s ≤ q) → Placed s v
   place k q v e l h =
       record {

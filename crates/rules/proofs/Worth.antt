@@ -24,7 +24,7 @@ module _ (w : Width) (v : ℕ) where
   unfoldable pub bare : ℕ
   bare = biased w v * 2 ^ w .S + significand w v
 
-  -- What a pattern is worth, as a number over 2^off, is its units times 2^(N + 1).
+  -- What a pattern is worth, as a number over 2^off, is the units of what it is without its sign, times 2^(N + 1).
   pub worth-bare : worth w v ≡ unitsOf (w .S) bare * 2 ^ (w .N + 1)
   unfolding worth magnitude bare
   worth-bare =
@@ -64,14 +64,15 @@ module _ (w : Width) (r : Readable w) where
   unfolding biased significand bare
   bare-rest v = sym (rw split-bits at (mod-pow-add v (w .bits - 1 - w .S) (w .S)))
 
+  -- A pattern that has no sign is itself.
   pub bare-is : (v : ℕ) → v < 2 ^ (w .bits - 1) → bare w v ≡ v
   bare-is v h = bare-rest v ∙ mod-eq-of-lt h
 
-  -- Up to the infinity a pattern is its own units.
+  -- Up to the infinity a pattern's worth is its own units times 2^(N + 1).
   pub worth-units : (v : ℕ) → v ≤ infinity w → worth w v ≡ unitsOf (w .S) v * 2 ^ (w .N + 1)
   worth-units v h = rw (bare-is v (no-sign v h)) at (worth-bare w v)
 
-  -- What is counted over 2^off is counted in units, times 2^(N + 1).
+  -- A whole is 2^low units, and 2^off is that times 2^(N + 1).
   pub off-units : 2 ^ off w ≡ 2 ^ low w * 2 ^ (w .N + 1)
   unfolding off low
   off-units =
