@@ -1,8 +1,8 @@
+pub mod Examples
 pub mod Counting
 pub mod Places
 pub mod Few
 pub mod LastDigit
-pub mod Examples
 pub mod LaidOut
 pub mod Runs
 pub mod LayoutReads
@@ -13,8 +13,9 @@ pub mod Widths
 pub mod Power
 pub mod Boundaries
 pub mod Scale
-pub mod Units
 pub mod Readable
+pub mod Printable
+pub mod Units
 pub mod Worth
 pub mod Rounding
 pub mod Unbounded
