@@ -1,5 +1,5 @@
 -- How many decimal digits a number has: `count` is the least that is enough, and a numeral has a byte for each. Assumes nothing.
-use Prim.Native.Nat.{ℕ, zero, suc, _+_, _/_, _^_, _≤_, _<_}
+use Prim.Native.Nat.{ℕ, zero, suc, _+_, _-_, _/_, _^_, _≤_, _<_}
 use mathlib.Core.Logic.{⊎-elim}
 use mathlib.Core.Path.{_≡_, refl, ap}
 use native.Mathlib.Nat.{div-lt-iff-lt-mul, le-refl, pow-le-pow-right, pow-suc, zero-lt-suc}
@@ -51,6 +51,17 @@ pub count-reaches : (v j : ℕ) → 10 ^ j ≤ v → suc j ≤ count v
 count-reaches v j h =
     ⊎-elim (λ less. less)
     (λ more. absurd (omega (arith, count-above v, pow-le-pow-right {n = 10} (zero-lt-suc 9) more))) (which j (count v))
+
+-- A number above zero reaches the power of ten of its first digit.
+pub count-first : (v : ℕ) → 0 < v → 10 ^ (count v - 1) ≤ v
+count-first v some = from (count v) (count-pos v) (count-least v)
+  where
+    from : (n : ℕ) → 0 < n → ((j : ℕ) → v < 10 ^ suc j → n ≤ suc j) → 10 ^ (n - 1) ≤ v
+    from zero h least = absurd (omega arith)
+    from (suc zero) h least = some
+    from (suc (suc n)) h least =
+        let e : suc (suc n) - 1 ≡ suc n = omega arith in
+        rw e (⊎-elim (λ less. absurd (omega (arith, least n less))) (λ more. more) (which v (10 ^ suc n)))
 
 -- A numeral of n digits has n bytes.
 pub length-numeral : (n v : ℕ) → length (numeral n v) ≡ n

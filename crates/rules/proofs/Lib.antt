@@ -15,6 +15,7 @@ pub mod Boundaries
 pub mod Scale
 pub mod Readable
 pub mod Printable
+pub mod Decimal
 pub mod Units
 pub mod Worth
 pub mod Rounding
