@@ -16,6 +16,7 @@ pub mod Scale
 pub mod Readable
 pub mod Printable
 pub mod Decimal
+pub mod TextLength
 pub mod Units
 pub mod Worth
 pub mod Rounding
