@@ -24,6 +24,7 @@ pub mod Unbounded
 pub mod Nearest
 pub mod Order
 pub mod Midpoints
+pub mod Neighbours
 pub mod Decoding
 pub mod Signs
 pub mod Ieee

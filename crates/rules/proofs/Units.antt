@@ -49,7 +49,7 @@ pub record Placed (s v : ℕ) : Type 0 where
 
 module _ (s : ℕ) where
   -- The place of k * 2^s + q, where q has the hidden bit or k is 0.
-  pub place : (k q v : ℕ) → k * 2 ^ s + q ≡ v → q < 2 * 2 ^ s → (0 < k → 2 ^ s ≤ q) → Placed s v
+  unfoldable pub place : (k q v : ℕ) → k * 2 ^ s + q ≡ v → q < 2 * 2 ^ s → (0 < k → 2 ^ s ≤ q) → Placed s v
   place k q v e l h =
       record {
         k = k;

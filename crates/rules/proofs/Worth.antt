@@ -1,5 +1,5 @@
 -- A pattern's worth is its units times a constant, and so is how far it is from a fraction. Assumes nothing.
-use mathlib.Core.Path.{_≡_, sym, ap, _∙_}
+use mathlib.Core.Path.{_≡_, refl, sym, ap, _∙_}
 use Prim.Native.Nat.{ℕ, suc, _+_, _-_, _*_, _%_, _^_, _≤_, _<_}
 use native.Mathlib.Nat.{mod-lt, mod-eq-of-lt, pos-of-ne-zero, mul-assoc, mul-add, mul-sub}
 use native.Mathlib.Omega.{arith}
@@ -12,40 +12,56 @@ use Rattle.rules.specs.Width.{Width, off}
 use Rattle.rules.specs.Pattern.{Pair, biased, significand, allOnes, magnitude}
 use Rattle.rules.specs.Reading.{infinity, low, worth, apart, miss}
 use Rattle.rules.proofs.Readable.{Readable}
-use Rattle.rules.proofs.Units.{unitsOf, units-at}
+use Rattle.rules.proofs.Units.{unitsOf, Placed, place}
 
 -- A significand is below the hidden bit.
 pub significand-small : (w : Width) (v : ℕ) → significand w v < 2 ^ w .S
 unfolding significand
 significand-small w v = mod-lt v (pow-pos (w .S))
 
-module _ (w : Width) (v : ℕ) where
-  -- A pattern without its sign.
-  unfoldable pub bare : ℕ
-  bare = biased w v * 2 ^ w .S + significand w v
+-- A pattern without its sign.
+unfoldable pub bare : Width → ℕ → ℕ
+bare w v = biased w v * 2 ^ w .S + significand w v
 
-  -- What a pattern is worth, as a number over 2^off, is the units of what it is without its sign, times 2^(N + 1).
-  pub worth-bare : worth w v ≡ unitsOf (w .S) bare * 2 ^ (w .N + 1)
-  unfolding worth magnitude bare
-  worth-bare =
-      either (λ (m : Pair). m .f * 2 ^ m .exp ≡ unitsOf (w .S) bare * 2 ^ (w .N + 1)) (eqb (biased w v) 0)
+-- Where the magnitude m of the pattern v stands in units: its f is exp - (N + 1) places up.
+pub record At (w : Width) (v : ℕ) (m : Pair) : Type 0 where
+  pub spot : Placed (w .S) (bare w v)
+  pub f-is : spot .q ≡ m .f
+  pub exp-is : spot .k + (w .N + 1) ≡ m .exp
+
+module _ (w : Width) (v : ℕ) where
+  pub at : At w v (magnitude w v)
+  unfolding magnitude bare place
+  at =
+      either (At w v) (eqb (biased w v) 0)
       (λ t.
       let b : biased w v ≡ 0 = eqb→eq (biased w v) 0 t in
-      at-place (significand w v) 0 (1 + w .N) (rw b (omega arith)) (omega (arith, small)) (λ h. absurd (omega arith)) (omega arith))
+      record {
+        spot = place (w .S) 0 (significand w v) (bare w v) (rw b (omega arith)) (omega (arith, small)) (λ h. absurd (omega arith));
+        f-is = refl;
+        exp-is = omega arith;
+      })
       (λ t.
       let b : 0 < biased w v = pos-of-ne-zero (λ e. T-not (eqb (biased w v) 0) t (eq→eqb e)) in
       let k = biased w v - 1 in
       let e : biased w v ≡ suc k = omega arith in
-      at-place (significand w v + 2 ^ w .S) k (biased w v + w .N) (omega (arith, ap (λ (x : ℕ). x * 2 ^ w .S) e)) (omega (arith, small))
-      (λ h. omega arith) (omega arith))
+      record {
+        spot =
+            place (w .S) k (significand w v + 2 ^ w .S) (bare w v) (omega (arith, ap (λ (x : ℕ). x * 2 ^ w .S) e)) (omega (arith, small))
+            (λ h. omega arith);
+        f-is = refl;
+        exp-is = omega arith;
+      })
     where
       small : significand w v < 2 ^ w .S
       small = significand-small w v
 
-      at-place : (f k e : ℕ) → k * 2 ^ w .S + f ≡ bare → f ≤ 2 * 2 ^ w .S → (0 < k → 2 ^ w .S ≤ f) → e ≡ k + (w .N + 1) →
-          f * 2 ^ e ≡ unitsOf (w .S) bare * 2 ^ (w .N + 1)
-      at-place f k e is fits hidden up =
-          rw (up, pow-add 2 k (w .N + 1), units-at (w .S) bare k f is fits hidden) (sym (mul-assoc f (2 ^ k) (2 ^ (w .N + 1))))
+  -- What a pattern is worth, as a number over 2^off, is its units times 2^(N + 1).
+  pub worth-bare : worth w v ≡ unitsOf (w .S) (bare w v) * 2 ^ (w .N + 1)
+  unfolding worth
+  worth-bare =
+      let p = at .spot in
+      rw (← at .f-is, ← at .exp-is, pow-add 2 (p .k) (w .N + 1), p .units) (sym (mul-assoc (p .q) (2 ^ p .k) (2 ^ (w .N + 1))))
 
 module _ (w : Width) (r : Readable w) where
   -- The bits below the sign are the exponent's field and the significand.

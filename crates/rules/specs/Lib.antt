@@ -11,4 +11,5 @@ pub mod Digits
 pub mod Layout
 pub mod Text
 pub mod Reading
+pub mod Midpoints
 pub mod Answer
