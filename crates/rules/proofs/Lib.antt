@@ -25,6 +25,7 @@ pub mod Nearest
 pub mod Order
 pub mod Midpoints
 pub mod Neighbours
+pub mod ExactText
 pub mod Decoding
 pub mod Signs
 pub mod Ieee

@@ -47,12 +47,12 @@ under-boundary n z last here some is gap =
     omega arith
 
 module _ (w : Width) (r : Readable w) (v : ℕ) where
-  bare-next : bare w v < 2 ^ (w .bits - 1) - 1 → bare w (suc v) ≡ suc (bare w v)
+  pub bare-next : bare w v < 2 ^ (w .bits - 1) - 1 → bare w (suc v) ≡ suc (bare w v)
   bare-next h =
       let e = bare-rest w r v in
       bare-rest w r (suc v) ∙ next-mod v (2 ^ (w .bits - 1)) (pow-pos (w .bits - 1)) (omega arith) ∙ ap suc (sym e)
 
-  bare-last : 0 < bare w v → bare w (v - 1) ≡ bare w v - 1
+  pub bare-last : 0 < bare w v → bare w (v - 1) ≡ bare w v - 1
   bare-last h =
       let e = bare-rest w r v in
       bare-rest w r (v - 1) ∙ last-mod v (2 ^ (w .bits - 1)) (pow-pos (w .bits - 1)) (omega arith) ∙ ap (λ (x : ℕ). x - 1) (sym e)
