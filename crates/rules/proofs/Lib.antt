@@ -26,6 +26,7 @@ pub mod Order
 pub mod Midpoints
 pub mod Neighbours
 pub mod ExactText
+pub mod RoundTrip
 pub mod Decoding
 pub mod Signs
 pub mod Ieee

@@ -1,0 +1,122 @@
+-- What is printed reads back: the text of a finite pattern lies strictly between the pattern's midpoints, reads as the pattern and as no other,
+-- and no two finite patterns of a width share a text. Assumes nothing.
+use mathlib.Core.Bool.{Bool, true, false, not}
+use mathlib.Core.List.{List}
+use mathlib.Core.Logic.{⊎-elim}
+use mathlib.Core.Path.{_≡_, refl, sym, ap, ap₂, _∙_, subst}
+use Prim.Native.Nat.{ℕ, zero, suc, _+_, _-_, _*_, _/_, _%_, _^_, _≤_, _<_}
+use native.Mathlib.Nat.{div-add-mod', div-lt-iff-lt-mul, mod-lt, lt-of-mul-lt-mul-right, mul-lt-mul-of-pos-right, mul-le-mul-right, eq-or-lt-of-le}
+use native.Mathlib.Omega.{arith}
+use lib.Dec.{T, eqb, eqb→eq, T-not}
+use lib.Ieee.Fits.{eq→eqb}
+use lib.IntN.{subℕ}
+use lib.Pow.{pow-pos}
+use lib.Signed.{mag}
+use Rattle.laws.proofs.Branches.{either}
+use Rattle.laws.proofs.Differences as difference
+use Rattle.laws.proofs.Powers.{ten-pos, two-halves}
+use Rattle.rules.specs.Bytes.{bytes}
+use Rattle.rules.specs.Numbers.{numeral}
+use Rattle.rules.specs.Width.{Width, off}
+use Rattle.rules.specs.Pattern.{Pair, negative, biased, significand, allOnes, special, magnitude}
+use Rattle.rules.specs.Boundaries.{below}
+use Rattle.rules.specs.Digits.{decimal}
+use Rattle.rules.specs.Layout.{layout}
+use Rattle.rules.specs.Text.{shown, signed, text}
+use Rattle.rules.specs.Reading.{Exact, number, exact, over, unsigned, infinity, top, low, worth, IsNearest, unbounded, nearest, withSign, ReadsAs}
+use Rattle.rules.specs.Midpoints.{midpointBelow, midpointAbove, Between}
+use Rattle.rules.proofs.Boundaries.{Finite}
+use Rattle.rules.proofs.Scale.{finite}
+use Rattle.rules.proofs.Printable.{Printable}
+use Rattle.rules.proofs.Decimal.{Printed, printed}
+use Rattle.rules.proofs.LayoutReads.{Says, layout-says}
+use Rattle.rules.proofs.Units.{unitsOf, units-rise}
+use Rattle.rules.proofs.Worth.{bare, at, bare-rest, no-sign, off-units, worth-bare, significand-small}
+use Rattle.rules.proofs.Nearest.{only-nearest}
+use Rattle.rules.proofs.Midpoints.{between-midpoints, below-first, up-to-top}
+use Rattle.rules.proofs.Neighbours.{bare-next, bare-last, above-midpoint, below-midpoint}
+use Rattle.rules.proofs.ExactText.{signed-says}
+
+-- The text of the pattern v, read exactly, has the pattern's sign and lies strictly between its midpoints.
+pub record Inside (w : Width) (v : ℕ) : Type 0 where
+  pub n : ℕ
+  pub d : ℕ
+  pub says : exact (text w v) ≡ number (negative w v) n d
+  pub positive : 0 < d
+  pub between : Between w v n d
+
+-- A decimal g * 10^up / 10^down that equals n / d, against a boundary u, all over a = 2^off.
+cross-under : (n d g U C a u : ℕ) → 0 < C → 0 < d → n * C ≡ g * U * d → g * U * a < u * C → n * a < u * d
+cross-under n d g U C a u c-some d-some equal less =
+    lt-of-mul-lt-mul-right C (omega (arith, mul-lt-mul-of-pos-right less d-some, ap (λ (z : ℕ). z * a) equal))
+
+cross-over : (n d g U C a u : ℕ) → 0 < C → 0 < d → n * C ≡ g * U * d → u * C < g * U * a → u * d < n * a
+cross-over n d g U C a u c-some d-some equal less =
+    lt-of-mul-lt-mul-right C (omega (arith, mul-lt-mul-of-pos-right less d-some, ap (λ (z : ℕ). z * a) equal))
+
+-- The text of a finite pattern is its sign and the text of its magnitude, and that of a magnitude other than zero its layout.
+pub finite-text : (w : Width) (v : ℕ) → T (not (special w v)) → text w v ≡ signed w v (shown w (magnitude w v))
+unfolding text
+finite-text w v ordinary =
+    either (λ (t : List ℕ). t ≡ signed w v (shown w (magnitude w v))) (special w v) (λ s. absurd (T-not (special w v) ordinary s)) (λ s. refl)
+
+laid-text : (w : Width) (m : Pair) → 0 < m .f → shown w m ≡ layout (numeral (decimal w m .len) (decimal w m .digits)) (decimal w m .k)
+unfolding shown
+laid-text w m some =
+    either (λ (t : List ℕ). t ≡ layout (numeral (decimal w m .len) (decimal w m .digits)) (decimal w m .k)) (eqb (m .f) 0)
+    (λ z. absurd (omega (arith, eqb→eq (m .f) 0 z))) (λ z. refl)
+
+module _ (w : Width) (q : ℕ) (p : Printable w q) where
+  -- What a finite magnitude's digits say.
+  magnitude-says : (m : Pair) (h : Finite w m) →
+      Says (layout (numeral (decimal w m .len) (decimal w m .digits)) (decimal w m .k)) (decimal w m .digits) (printed w q p m h .up) (printed w q p m h .down)
+  magnitude-says m h =
+      let d = printed w q p m h in
+      rw (d .k-is)
+      (by-length (decimal w m .len) (decimal w m .digits) (d .up) (d .down) (d .some) (omega (arith, d .few, p .few)) (d .fits)
+      (near (d .up) (d .down) (rw (d .k-is) at (d .near))) (omega (arith, d .kk-least)))
+    where
+      near : (up down : ℕ) → mag (subℕ up down) < 1000 → up ≤ down + 9000
+      near up down = difference.cases (λ z. mag z < 1000 → up ≤ down + 9000) up down (λ l h. omega arith) (λ l h. omega arith)
+
+      by-length : (len digits up down : ℕ) → 0 < len → len ≤ 21 → digits < 10 ^ len → up ≤ down + 9000 → down ≤ up + len + 324 →
+          Says (layout (numeral len digits) (subℕ up down)) digits up down
+      by-length zero digits up down some short fits most least = absurd (omega arith)
+      by-length (suc l) digits up down some short fits most least = layout-says l digits up down fits short most least
+
+  module _ (v : ℕ) (ordinary : T (not (special w v))) where
+    -- Without its sign a finite pattern is below the infinity.
+    pub bare-finite : bare w v < infinity w
+    unfolding bare infinity special allOnes biased
+    bare-finite =
+        let field : biased w v < 2 ^ (w .bits - 1 - w .S) = mod-lt (v / 2 ^ w .S) (pow-pos (w .bits - 1 - w .S)) in
+        let less : suc (biased w v) ≤ allOnes w = below-ones (biased w v) (allOnes w) (omega arith) ordinary in
+        omega (arith, significand-small w v, mul-le-mul-right (2 ^ w .S) less)
+      where
+        below-ones : (b c : ℕ) → b ≤ c → T (not (eqb b c)) → b < c
+        below-ones b c most differ = ⊎-elim (λ e. absurd (T-not (eqb b c) differ (eq→eqb e))) (λ l. l) (eq-or-lt-of-le most)
+
+    room-above : bare w v < 2 ^ (w .bits - 1) - 1
+    room-above = omega (arith, no-sign w (p .readable) (suc (bare w v)) bare-finite)
+
+    -- The printed text of a finite pattern that is not zero lies strictly between the pattern's midpoints.
+    pub inside : 0 < magnitude w v .f → Inside w v
+    inside some =
+        let m = magnitude w v in
+        let h = finite w v (p .sound .finite) ordinary some in
+        let d = printed w q p m h in
+        let s = magnitude-says m h in
+        let n-some : 0 < w .N = omega (arith, p .sound .wide) in
+        let over = cross-over (s .n) (s .d) (decimal w m .digits) (10 ^ d .up) (10 ^ d .down) (2 ^ off w) _ (ten-pos (d .down)) (s .positive) (s .equal) (d .over-lower) in
+        let under = cross-under (s .n) (s .d) (decimal w m .digits) (10 ^ d .up) (10 ^ d .down) (2 ^ off w) _ (ten-pos (d .down)) (s .positive) (s .equal) (d .under-upper) in
+        record {
+          n = s .n;
+          d = s .d;
+          says = ap exact (finite-text w v ordinary ∙ ap (signed w v) (laid-text w m some)) ∙ signed-says w v _ (s .is);
+          positive = s .positive;
+          between =
+              record {
+                above = omega (arith, mul-le-mul-right (s .d) (below-midpoint w (p .readable) v n-some some));
+                under = omega (arith, ap (λ (z : ℕ). z * s .d) (above-midpoint w (p .readable) v n-some room-above));
+              };
+        }
