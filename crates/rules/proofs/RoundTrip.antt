@@ -2,7 +2,7 @@
 -- and no two finite patterns of a width share a text. Assumes nothing.
 use mathlib.Core.Bool.{Bool, true, false, not}
 use mathlib.Core.List.{List}
-use mathlib.Core.Logic.{⊎-elim}
+use mathlib.Core.Logic.{_⊎_, inl, inr, ⊎-elim}
 use mathlib.Core.Path.{_≡_, refl, sym, ap, ap₂, _∙_, subst}
 use Prim.Native.Nat.{ℕ, zero, suc, _+_, _-_, _*_, _/_, _%_, _^_, _≤_, _<_}
 use native.Mathlib.Nat.{div-add-mod', div-lt-iff-lt-mul, mod-lt, lt-of-mul-lt-mul-right, mul-lt-mul-of-pos-right, mul-le-mul-right, eq-or-lt-of-le}
@@ -12,7 +12,7 @@ use lib.Ieee.Fits.{eq→eqb}
 use lib.IntN.{subℕ}
 use lib.Pow.{pow-pos}
 use lib.Signed.{mag}
-use Rattle.laws.proofs.Branches.{either}
+use Rattle.laws.proofs.Branches.{either, which}
 use Rattle.laws.proofs.Differences as difference
 use Rattle.laws.proofs.Powers.{ten-pos, two-halves}
 use Rattle.rules.specs.Bytes.{bytes}
@@ -23,7 +23,7 @@ use Rattle.rules.specs.Boundaries.{below}
 use Rattle.rules.specs.Digits.{decimal}
 use Rattle.rules.specs.Layout.{layout}
 use Rattle.rules.specs.Text.{shown, signed, text}
-use Rattle.rules.specs.Reading.{Exact, number, exact, over, unsigned, infinity, top, low, worth, IsNearest, unbounded, nearest, withSign, ReadsAs}
+use Rattle.rules.specs.Reading.{Exact, number, exact, over, isDigit, extended, decimalsMore, decimalsFirst, wholeMore, unsigned, infinity, top, low, worth, IsNearest, unbounded, nearest, withSign, ReadsAs}
 use Rattle.rules.specs.Midpoints.{midpointBelow, midpointAbove, Between}
 use Rattle.rules.proofs.Boundaries.{Finite}
 use Rattle.rules.proofs.Scale.{finite}
@@ -32,6 +32,7 @@ use Rattle.rules.proofs.Decimal.{Printed, printed}
 use Rattle.rules.proofs.LayoutReads.{Says, layout-says}
 use Rattle.rules.proofs.Units.{unitsOf, units-rise}
 use Rattle.rules.proofs.Worth.{bare, at, bare-rest, no-sign, off-units, worth-bare, significand-small}
+use Rattle.rules.proofs.Signs.{rejoined}
 use Rattle.rules.proofs.Nearest.{only-nearest}
 use Rattle.rules.proofs.Midpoints.{between-midpoints, below-first, up-to-top}
 use Rattle.rules.proofs.Neighbours.{bare-next, bare-last, above-midpoint, below-midpoint}
@@ -120,3 +121,97 @@ module _ (w : Width) (q : ℕ) (p : Printable w q) where
                 under = omega (arith, ap (λ (z : ℕ). z * s .d) (above-midpoint w (p .readable) v n-some room-above));
               };
         }
+
+    -- The same in units.
+    in-units : (n d : ℕ) → 0 < d → 0 < magnitude w v .f → Between w v n d → unbounded w n d ≡ bare w v
+    unfolding midpointBelow midpointAbove
+    in-units n d positive some between =
+        let r = p .readable in
+        let a = at w v in
+        let C = 2 ^ (w .N + 1) in
+        let u = bare w v in
+        let above : 0 < u = omega (arith, a .spot .is, a .f-is) in
+        let here = worth-bare w v in
+        let last = worth-bare w (v - 1) ∙ ap (λ (x : ℕ). unitsOf (w .S) x * C) (bare-last w r v above) in
+        let next = worth-bare w (suc v) ∙ ap (λ (x : ℕ). unitsOf (w .S) x * C) (bare-next w r v room-above) in
+        let over = rw (here, last, off-units w r) at (between .above) in
+        let under = rw (here, next, off-units w r) at (between .under) in
+        between-midpoints w r n d positive u above (lt-of-mul-lt-mul-right C (omega (arith, over))) (lt-of-mul-lt-mul-right C (omega (arith, under)))
+
+    -- A finite pattern's text and what it reads as, before the top rule and the sign.
+    record Read : Type 0 where
+      n : ℕ
+      d : ℕ
+      says : exact (text w v) ≡ number (negative w v) n d
+      positive : 0 < d
+      reads : unbounded w n d ≡ bare w v
+
+    zero-says : unsigned (bytes "0.0") ≡ over 0 10
+    unfolding bytes unsigned isDigit extended wholeMore decimalsFirst decimalsMore
+    zero-says = refl
+
+    zero-text : magnitude w v .f ≡ 0 → shown w (magnitude w v) ≡ bytes "0.0"
+    unfolding shown
+    zero-text none = either (λ (t : List ℕ). t ≡ bytes "0.0") (eqb (magnitude w v .f) 0) (λ z. refl) (λ z. absurd (T-not (eqb (magnitude w v .f) 0) z (eq→eqb none)))
+
+    bare-zero : magnitude w v .f ≡ 0 → bare w v ≡ 0
+    bare-zero none =
+        let a = at w v in
+        let s = a .spot in
+        ⊎-elim (λ up. absurd (omega (arith, s .hidden up, a .f-is, pow-pos (w .S))))
+        (λ low. let k : s .k ≡ 0 = omega arith in omega (arith, s .is, a .f-is, ap (λ (x : ℕ). x * 2 ^ w .S) k)) (which 0 (s .k))
+
+    read : Read
+    read = by-magnitude (which 0 (magnitude w v .f))
+      where
+        by-magnitude : (0 < magnitude w v .f) ⊎ (magnitude w v .f ≤ 0) → Read
+        by-magnitude (inl some) =
+            let i = inside some in
+            record { n = i .n; d = i .d; says = i .says; positive = i .positive; reads = in-units (i .n) (i .d) (i .positive) some (i .between) }
+        by-magnitude (inr none) =
+            let zero-is : magnitude w v .f ≡ 0 = omega arith in
+            record {
+              n = 0;
+              d = 10;
+              says = ap exact (finite-text w v ordinary ∙ ap (signed w v) (zero-text zero-is)) ∙ signed-says w v (bytes "0.0") zero-says;
+              positive = omega arith;
+              reads = below-first w (p .readable) 0 10 (omega arith) (omega (arith, units-rise (w .S) 0)) ∙ sym (bare-zero zero-is);
+            }
+
+    top-holds : bare w v ≤ top w
+    unfolding top
+    top-holds = omega (arith, bare-finite)
+
+    -- The printed text of every finite pattern, both zeros too, reads as the pattern.
+    pub restored : v < 2 ^ w .bits → ReadsAs w (text w v) v
+    restored bound =
+        let r = read in
+        record {
+          sign = negative w v;
+          n = r .n;
+          d = r .d;
+          says = r .says;
+          positive = r .positive;
+          pattern = sym (ap (withSign w (negative w v)) (up-to-top w (r .n) (r .d) (bare w v) (r .reads) top-holds) ∙ rejoined w (p .readable) v bound);
+        }
+
+    -- However the text reads, no other pattern is nearest to it.
+    pub only-restored : v < 2 ^ w .bits → (s : Bool) (n d u : ℕ) → exact (text w v) ≡ number s n d → IsNearest w n d u → withSign w s u ≡ v
+    only-restored bound s n d u says near =
+        let r = read in
+        let same : number s n d ≡ number (negative w v) (r .n) (r .d) = sym says ∙ r .says in
+        let same-n : n ≡ r .n = cc in
+        let same-d : d ≡ r .d = cc in
+        let same-s : s ≡ negative w v = cc in
+        let is : u ≡ nearest w n d = only-nearest w (p .readable) n d u (rw same-d (r .positive)) near in
+        ap₂ (withSign w) same-s (is ∙ ap₂ (nearest w) same-n same-d ∙ up-to-top w (r .n) (r .d) (bare w v) (r .reads) top-holds)
+        ∙ rejoined w (p .readable) v bound
+
+-- Two finite patterns of a width with the same text are the same.
+pub distinct : (w : Width) (q : ℕ) → Printable w q → (u v : ℕ) → u < 2 ^ w .bits → v < 2 ^ w .bits → T (not (special w u)) → T (not (special w v)) →
+    text w u ≡ text w v → u ≡ v
+distinct w q p u v hu hv fu fv same =
+    let a = restored w q p u fu hu in
+    let b = restored w q p v fv hv in
+    let says : number (a .sign) (a .n) (a .d) ≡ number (b .sign) (b .n) (b .d) = sym (a .says) ∙ ap exact same ∙ b .says in
+    cc (a .pattern, b .pattern)
