@@ -30,3 +30,4 @@ pub mod RoundTrip
 pub mod Decoding
 pub mod Signs
 pub mod Ieee
+pub mod Promises

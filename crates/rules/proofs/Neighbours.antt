@@ -3,9 +3,9 @@ use mathlib.Core.Bool.{not}
 use mathlib.Core.Logic.{_⊎_, inl, inr, ⊎-elim}
 use mathlib.Core.Path.{_≡_, refl, sym, ap, _∙_}
 use Prim.Native.Nat.{ℕ, zero, suc, _+_, _-_, _*_, _/_, _%_, _^_, _≤_, _<_}
-use native.Mathlib.Nat.{div-add-mod', mul-le-mul-right, mod-lt, pos-of-ne-zero}
+use native.Mathlib.Nat.{div-add-mod', mod-eq-of-lt, mod-lt, mul-le-mul-right}
 use native.Mathlib.Omega.{arith}
-use lib.Arith.{digits-mod}
+use lib.Arith.{digits-div, digits-mod}
 use lib.Dec.{T, eqb, eqb→eq, T-not}
 use lib.Ieee.Fits.{eq→eqb}
 use lib.Pow.{pow-add, pow-mono, pow-pos}
@@ -14,11 +14,11 @@ use Rattle.laws.proofs.Powers.{two-halves}
 use Rattle.rules.specs.Width.{Width}
 use Rattle.rules.specs.Pattern.{Pair, biased, significand, allOnes, special, magnitude}
 use Rattle.rules.specs.Boundaries.{below}
-use Rattle.rules.specs.Reading.{worth}
+use Rattle.rules.specs.Reading.{infinity, top, worth}
 use Rattle.rules.specs.Midpoints.{midpointBelow, midpointAbove}
 use Rattle.rules.proofs.Readable.{Readable}
 use Rattle.rules.proofs.Units.{unitsOf, Placed, place, placed}
-use Rattle.rules.proofs.Worth.{bare, At, at, bare-rest, worth-bare, significand-small}
+use Rattle.rules.proofs.Worth.{bare, at, bare-is, bare-rest, no-sign, worth-bare}
 
 -- One more and one less, modulo M.
 next-mod : (v M : ℕ) → 0 < M → suc (v % M) < M → suc v % M ≡ suc (v % M)
@@ -115,3 +115,38 @@ module _ (w : Width) (r : Readable w) (v : ℕ) where
   above-midpoint n h =
       let two = two-halves (magnitude w v .exp) (omega (arith, at w v .exp-is)) in
       rw (worth-next h, here-is, two) (omega arith)
+
+-- Above the largest finite pattern, the infinity's pattern counts as one more step of the last size.
+module _ (w : Width) (r : Readable w) (finite : 2 ≤ allOnes w) where
+  -- A pattern with the largest finite exponent.
+  last-exponent : (f : ℕ) → f < 2 ^ w .S → magnitude w ((allOnes w - 1) * 2 ^ w .S + f) .exp ≡ allOnes w - 1 + w .N
+  unfolding magnitude biased allOnes
+  last-exponent f small =
+      let b = allOnes w - 1 in
+      let field : (b * 2 ^ w .S + f) / 2 ^ w .S % 2 ^ (w .bits - 1 - w .S) ≡ b = rw (digits-div b small) (mod-eq-of-lt (omega arith)) in
+      either (λ (m : Pair). m .exp ≡ b + w .N) (eqb ((b * 2 ^ w .S + f) / 2 ^ w .S % 2 ^ (w .bits - 1 - w .S)) 0)
+      (λ t. absurd (omega (arith, eqb→eq ((b * 2 ^ w .S + f) / 2 ^ w .S % 2 ^ (w .bits - 1 - w .S)) 0 t))) (λ t. ap (λ (x : ℕ). x + w .N) field)
+
+  -- With it one pattern is a step of a fixed size below the next.
+  last-step : (f : ℕ) → f < 2 ^ w .S →
+      worth w (suc ((allOnes w - 1) * 2 ^ w .S + f)) ≡ worth w ((allOnes w - 1) * 2 ^ w .S + f) + 2 ^ (allOnes w - 1 + w .N)
+  unfolding infinity
+  last-step f small =
+      let v = (allOnes w - 1) * 2 ^ w .S + f in
+      let e : allOnes w * 2 ^ w .S ≡ (allOnes w - 1 + 1) * 2 ^ w .S = ap (λ (x : ℕ). x * 2 ^ w .S) (omega arith) in
+      let plain = no-sign w r (suc v) (omega arith) in
+      worth-next w r v (omega (arith, bare-is w r v (omega arith))) ∙ ap (λ (x : ℕ). worth w v + 2 ^ x) (last-exponent f small)
+
+  pub equal-step : worth w (infinity w) + worth w (top w - 1) ≡ 2 * worth w (top w)
+  unfolding infinity top
+  equal-step =
+      let h = 2 ^ w .S in
+      let b = allOnes w - 1 in
+      let two : h ≡ 2 * 2 ^ (w .S - 1) = two-halves (w .S) (r .digits) in
+      let some = pow-pos (w .S - 1) in
+      let e : allOnes w * h ≡ (b + 1) * h = ap (λ (x : ℕ). x * h) (omega arith) in
+      let least = ap (worth w) {x = b * h + (h - 2)} {y = allOnes w * h - 1 - 1} (omega arith) in
+      let most = ap (worth w) {x = b * h + (h - 1)} {y = allOnes w * h - 1} (omega arith) in
+      let middle = ap (worth w) {x = suc (b * h + (h - 2))} {y = allOnes w * h - 1} (omega arith) in
+      let beyond = ap (worth w) {x = suc (b * h + (h - 1))} {y = allOnes w * h} (omega arith) in
+      omega (arith, last-step (h - 2) (omega arith), last-step (h - 1) (omega arith))

@@ -4,11 +4,13 @@ use mathlib.Core.Bool.{Bool, true, false, not}
 use mathlib.Core.List.{List}
 use mathlib.Core.Logic.{_⊎_, inl, inr, ⊎-elim}
 use mathlib.Core.Path.{_≡_, refl, sym, ap, ap₂, _∙_, subst}
-use Prim.Native.Nat.{ℕ, zero, suc, _+_, _-_, _*_, _/_, _%_, _^_, _≤_, _<_}
-use native.Mathlib.Nat.{div-add-mod', div-lt-iff-lt-mul, mod-lt, lt-of-mul-lt-mul-right, mul-lt-mul-of-pos-right, mul-le-mul-right, eq-or-lt-of-le}
+use Prim.Native.Nat.{ℕ, zero, suc, _+_, _-_, _*_, _/_, _%_, _^_, _≤_, _<_, min}
+use native.Mathlib.Nat.{div-add-mod', div-lt-iff-lt-mul, mod-lt, lt-of-mul-lt-mul-right, mul-lt-mul-of-pos-right, mul-le-mul-right, eq-or-lt-of-le, le-of-lt, min-eq-right}
 use native.Mathlib.Omega.{arith}
 use lib.Dec.{T, eqb, eqb→eq, T-not}
-use lib.Ieee.Fits.{eq→eqb}
+use lib.Ieee.{Format, round, ofBits, toBits}
+use lib.Ieee.Bits.{ofBits-toBits}
+use lib.Ieee.Fits.{eq→eqb, round-fits}
 use lib.IntN.{subℕ}
 use lib.Pow.{pow-pos}
 use lib.Signed.{mag}
@@ -36,6 +38,8 @@ use Rattle.rules.proofs.Signs.{rejoined}
 use Rattle.rules.proofs.Nearest.{only-nearest}
 use Rattle.rules.proofs.Midpoints.{between-midpoints, below-first, up-to-top}
 use Rattle.rules.proofs.Neighbours.{bare-next, bare-last, above-midpoint, below-midpoint}
+use Rattle.rules.proofs.Decoding.{Agree}
+use Rattle.rules.proofs.Ieee.{round-bits}
 use Rattle.rules.proofs.ExactText.{signed-says}
 
 -- The text of the pattern v, read exactly, has the pattern's sign and lies strictly between its midpoints.
@@ -206,6 +210,22 @@ module _ (w : Width) (q : ℕ) (p : Printable w q) where
         let is : u ≡ nearest w n d = only-nearest w (p .readable) n d u (rw same-d (r .positive)) near in
         ap₂ (withSign w) same-s (is ∙ ap₂ (nearest w) same-n same-d ∙ up-to-top w (r .n) (r .d) (bare w v) (r .reads) top-holds)
         ∙ rejoined w (p .readable) v bound
+
+-- The same in the toolchain's own account of IEEE 754: the text's fraction, rounded, is the number that the pattern stands for.
+pub rounded : (f : Format) (w : Width) (q : ℕ) → Agree f w → Printable w q → (v : ℕ) → v < 2 ^ w .bits → T (not (special w v)) →
+    (s : Bool) (n d : ℕ) → exact (text w v) ≡ number s n d → round f s n d ≡ ofBits f v
+rounded f w q g p v bound ordinary s n d says =
+    let r = read w q p v ordinary in
+    let same : number s n d ≡ number (negative w v) (r .n) (r .d) = sym says ∙ r .says in
+    let same-n : n ≡ r .n = cc in
+    let same-d : d ≡ r .d = cc in
+    let same-s : s ≡ negative w v = cc in
+    let reads : unbounded w n d ≡ bare w v = ap₂ (unbounded w) same-n same-d ∙ r .reads in
+    let bits : toBits f (round f s n d) ≡ v =
+    round-bits f w g s n d
+    ∙ ap₂ (withSign w) same-s (ap (min (infinity w)) reads ∙ min-eq-right (le-of-lt (bare-finite w q p v ordinary)))
+    ∙ rejoined w (p .readable) v bound in
+    sym (ofBits-toBits f (round f s n d) (round-fits f s n d)) ∙ ap (ofBits f) bits
 
 -- Two finite patterns of a width with the same text are the same.
 pub distinct : (w : Width) (q : ℕ) → Printable w q → (u v : ℕ) → u < 2 ^ w .bits → v < 2 ^ w .bits → T (not (special w u)) → T (not (special w v)) →
