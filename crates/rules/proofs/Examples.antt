@@ -130,6 +130,9 @@ list =
     -- the rest equals D: at a place above zero, which passes, and at one below, which does not
     ∷ prints w32 0x6da6ac26 "6.447828e27"
     ∷ prints w32 0x4064c505 "3.5745251"
+    -- a fall that D alone forbids: three binary32 patterns have one and six of binary64, all of them powers of two
+    ∷ prints w32 0x0f800000 "1.2621775e-29"
+    ∷ prints w64 0x13e0000000000000 "5.940911144672375e-213"
     -- a printed text, a buffer too short, a refused infinity, and both at once
     ∷ answers every w32 0xbf800000 27 0 4 "-1.0"
     ∷ answers finiteOnly w64 0xbec2c86d907ec0e7 25 0 25 "-0.0000022390987659202535"
