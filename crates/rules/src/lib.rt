@@ -1,1 +1,1 @@
-// No code: the rules of printing and reading as definitions, in specs/, and what is proved of them, in proofs/.
+// No code: the rules of printing and reading as definitions, in specs/, with worked examples and the tables' rule, in proofs/.

@@ -1,0 +1,1 @@
+// No code: what is proved of the rules alone, in proofs/.
