@@ -153,7 +153,7 @@ list =
     -- the rest equals D: at a place above zero, which passes, and at one below, which does not
     ∷ prints w32 0x6da6ac26 "6.447828e27"
     ∷ prints w32 0x4064c505 "3.5745251"
-    -- a fall that D alone forbids: three binary32 patterns have one and six of binary64, all of them powers of two
+    -- a fall that D alone forbids: of all binary32 patterns three have one, powers of two, and six of binary64's powers of two
     ∷ prints w32 0x0f800000 "1.2621775e-29"
     ∷ prints w64 0x13e0000000000000 "5.940911144672375e-213"
     -- texts that come back: a power of two, the smallest and the smallest normal, the largest, both zeros
