@@ -1,7 +1,7 @@
 -- What a branch on a test leaves to prove, and tests joined by `&&`. Assumes nothing.
 use mathlib.Core.Bool.{Bool, true, false, not, _&&_}
 use mathlib.Core.Logic.{_⊎_, inl, inr, ⊎-elim}
-use mathlib.Core.Path.{_≡_, refl, sym, subst}
+use mathlib.Core.Path.{_≡_, refl, sym}
 use Prim.Native.Nat.{ℕ, _≤_, _<_}
 use native.Mathlib.Nat.{eq-or-lt-of-le}
 use lib.Dec.{T, ltb, ltb→lt, nltb→le}

@@ -1,7 +1,7 @@
 -- Powers of two and ten, and products in one order. Assumes nothing.
-use mathlib.Core.Path.{_≡_, refl, sym, ap, _∙_}
-use Prim.Native.Nat.{ℕ, zero, suc, _+_, _-_, _*_, _^_, _≤_, _<_}
-use native.Mathlib.Nat.{mul-assoc, mul-comm, mul-left-comm, one-le-pow, zero-lt-suc, pow-suc, pow-succ', le-refl}
+use mathlib.Core.Path.{_≡_, ap, _∙_}
+use Prim.Native.Nat.{ℕ, zero, suc, _-_, _*_, _^_, _<_}
+use native.Mathlib.Nat.{mul-assoc, mul-comm, mul-left-comm, one-le-pow, zero-lt-suc, pow-succ'}
 use native.Mathlib.Omega.{arith}
 
 -- Products of the same factors are the same: `simp monomials` brings both to one order.

@@ -1,8 +1,8 @@
 -- Tests that the checker computes at every number of a range, and what they say there: `every f n tt i h` is what the test `f i` says,
 -- where each of f 0, .., f (n - 1) computes to a pass. Assumes nothing.
-use mathlib.Core.Bool.{Bool, true, false, _&&_}
+use mathlib.Core.Bool.{Bool, true, _&&_}
 use mathlib.Core.Logic.{⊎-elim}
-use mathlib.Core.Path.{_≡_, sym, subst}
+use mathlib.Core.Path.{sym, subst}
 use Prim.Native.Nat.{ℕ, zero, suc, _≤_, _<_}
 use native.Mathlib.Nat.{eq-or-lt-of-le, le-of-suc-le-suc, not-suc-le-zero}
 use lib.Dec.{T, leb, ltb, leb→le, ltb→lt}

@@ -5,8 +5,8 @@ use mathlib.Core.Bool.{Bool, true, false, _&&_}
 use mathlib.Core.List.{List, [], _∷_, _++_}
 use lib.Dec.{T, eqb}
 use lib.Ieee.{size}
-use lib.IntN.{ℤ, pos, natAbs, subℕ}
-use lib.ListN.{getD, length, replicate, drop}
+use lib.IntN.{ℤ, pos, subℕ}
+use lib.ListN.{getD, replicate, drop}
 use lib.Signed.{leZ}
 use Rattle.rules.specs.Bytes.{bytes}
 use Rattle.rules.specs.Numbers.{neg, count, countUpTo, numeral, plain}

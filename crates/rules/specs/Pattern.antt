@@ -1,5 +1,5 @@
 -- What a pattern means, by IEEE 754-2019: its sign, biased exponent and significand, and its magnitude. Assumes nothing.
-use Prim.Native.Nat.{ℕ, _+_, _-_, _/_, _%_, _^_, max}
+use Prim.Native.Nat.{ℕ, _+_, _-_, _/_, _%_, _^_}
 use mathlib.Core.Bool.{Bool, true, false}
 use lib.Dec.{eqb}
 use Rattle.rules.specs.Width.{Width}

@@ -1,7 +1,7 @@
 -- The text of every pattern. Assumes nothing.
 use Prim.Native.Nat.{ℕ}
 use mathlib.Core.Bool.{true, false}
-use mathlib.Core.List.{List, [], _∷_}
+use mathlib.Core.List.{List, _∷_}
 use lib.Dec.{eqb}
 use Rattle.rules.specs.Bytes.{bytes, minus}
 use Rattle.rules.specs.Numbers.{numeral}

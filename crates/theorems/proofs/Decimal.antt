@@ -1,8 +1,8 @@
 -- The decimal that a finite magnitude prints: how many digits, how large an exponent, and between which bounds. Assumes nothing.
 use mathlib.Core.Logic.{⊎-elim}
 use mathlib.Core.Path.{_≡_, refl, sym, ap, _∙_}
-use Prim.Native.Nat.{ℕ, zero, suc, _+_, _-_, _*_, _/_, _^_, _≤_, _<_}
-use native.Mathlib.Nat.{le-trans, lt-of-le-of-lt, lt-of-mul-lt-mul-right, mul-le-mul-left, mul-le-mul-right, mul-lt-mul-of-pos-right, one-mul, pow-succ', div-lt-iff-lt-mul, le-div-iff-mul-le}
+use Prim.Native.Nat.{ℕ, suc, _+_, _-_, _*_, _/_, _^_, _≤_, _<_}
+use native.Mathlib.Nat.{lt-of-mul-lt-mul-right, mul-le-mul-left, mul-le-mul-right, mul-lt-mul-of-pos-right, one-mul, pow-succ', div-lt-iff-lt-mul, le-div-iff-mul-le}
 use native.Mathlib.Omega.{arith}
 use lib.IntN.{subℕ}
 use lib.Pow.{pow-add, pow-mono, pow-pos}
@@ -15,12 +15,12 @@ use Rattle.rules.specs.Numbers.{count}
 use Rattle.rules.specs.Width.{Width, off}
 use Rattle.rules.specs.Pattern.{Pair}
 use Rattle.rules.specs.Boundaries.{upper, below}
-use Rattle.rules.specs.Power.{jRaised, index}
+use Rattle.rules.specs.Power.{jRaised}
 use Rattle.rules.specs.Scaled.{Scaled, scaled}
-use Rattle.rules.specs.Digits.{Place, c, first, falls, decimal}
+use Rattle.rules.specs.Digits.{c, first, decimal}
 use Rattle.theorems.proofs.Counting.{count-above, count-least, count-pos, count-reaches, count-first}
 use Rattle.theorems.proofs.Places.{first-taken, fallen, between}
-use Rattle.theorems.proofs.Few.{c-least, c-most, up-most, count-few, down-most}
+use Rattle.theorems.proofs.Few.{c-least, up-most, count-few, down-most}
 use Rattle.theorems.proofs.LastDigit.{printed-pos}
 use Rattle.theorems.proofs.Power.{j-least, index-is}
 use Rattle.theorems.proofs.Boundaries.{Finite, upper-shifted, exponent-most}

@@ -1,10 +1,10 @@
 -- The exact reading of a printed text: its sign, and the fraction that its digits write. Assumes nothing.
-use mathlib.Core.Bool.{Bool, true, false, not, _&&_}
+use mathlib.Core.Bool.{Bool, true, false}
 use mathlib.Core.List.{List, [], _∷_}
-use mathlib.Core.Path.{_≡_, refl, ap, _∙_}
-use Prim.Native.Nat.{ℕ, zero, suc, _+_, _≤_, _<_}
+use mathlib.Core.Path.{_≡_, ap}
+use Prim.Native.Nat.{ℕ, _+_, _≤_, _<_}
 use native.Mathlib.Omega.{arith}
-use lib.Dec.{T, leb, ltb, leb→le, ltb→lt, eqb, eqb→eq}
+use lib.Dec.{leb, ltb, leb→le, ltb→lt, eqb, eqb→eq}
 use Rattle.laws.proofs.Branches.{either, and-left, and-right}
 use Rattle.rules.specs.Bytes.{bytes, byte0, minus}
 use Rattle.rules.specs.Width.{Width}

@@ -1,10 +1,10 @@
 -- Which rule lays digits out, told by natural numbers: what the length and the reading of a text go by. Assumes nothing.
-use mathlib.Core.Bool.{Bool, true, false, not, _&&_}
-use mathlib.Core.List.{List, [], _∷_, _++_}
-use mathlib.Core.Path.{_≡_, refl, sym, ap, _∙_}
+use mathlib.Core.Bool.{true, _&&_}
+use mathlib.Core.List.{List, _∷_, _++_}
+use mathlib.Core.Path.{_≡_, refl, sym, ap}
 use Prim.Native.Nat.{ℕ, zero, suc, _+_, _-_, _≤_, _<_}
 use native.Mathlib.Omega.{arith}
-use lib.Dec.{T, leb, ltb, leb→le, ltb→lt, nleb→lt, nltb→le, le→leb, lt→ltb, T-not}
+use lib.Dec.{leb, ltb, leb→le, ltb→lt, nleb→lt, nltb→le, le→leb}
 use lib.IntN.{ℤ, pos, negsuc, subℕ}
 use lib.ListN.{length, take, drop}
 use Rattle.laws.proofs.Branches.{either, and-left, and-right, and-not-left, and-not-right}

@@ -1,16 +1,16 @@
 -- How many bytes a layout has: from 3 to 24, and more than it has digits. Assumes nothing.
-use mathlib.Core.List.{List, _∷_, _++_}
-use mathlib.Core.Path.{_≡_, refl, sym, ap, _∙_}
-use Prim.Native.Nat.{ℕ, zero, suc, _+_, _-_, _^_, _≤_, _<_, min}
+use mathlib.Core.List.{List, _++_}
+use mathlib.Core.Path.{_≡_, refl, ap, _∙_}
+use Prim.Native.Nat.{ℕ, suc, _+_, _-_, _^_, _≤_, _<_}
 use native.Mathlib.Omega.{arith}
-use lib.Dec.{ltb, eqb, eqb→eq}
+use lib.Dec.{eqb}
 use lib.IntN.{ℤ, pos, negsuc, subℕ}
-use lib.ListN.{length, take, drop, length-append, length-take, length-drop}
+use lib.ListN.{length, drop, length-append, length-take, length-drop}
 use lib.Signed.{mag}
 use Rattle.laws.proofs.Branches.{either}
 use Rattle.laws.proofs.Differences as difference
-use Rattle.rules.specs.Bytes.{bytes, byte0, point, letterE}
-use Rattle.rules.specs.Layout.{zeros, decimals, exponent, scientific, layout}
+use Rattle.rules.specs.Bytes.{bytes}
+use Rattle.rules.specs.Layout.{zeros, exponent, scientific, layout}
 use Rattle.theorems.proofs.Counting.{count-least, count-pos, length-plain}
 use Rattle.theorems.proofs.LaidOut.{Laid, whole, inner, small, tiny, large, minute, laid}
 use Rattle.theorems.proofs.LayoutReads.{uncut, length-zeros}

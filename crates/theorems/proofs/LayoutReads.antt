@@ -14,7 +14,7 @@ use Rattle.laws.proofs.Powers.{ten-pos}
 use Rattle.rules.specs.Bytes.{bytes, byte0, point, letterE}
 use Rattle.rules.specs.Numbers.{numeral}
 use Rattle.rules.specs.Layout.{zeros, decimals, scientific, exponent, layout}
-use Rattle.rules.specs.Reading.{Unsigned, over, isDigit, extended, unsigned, wholeMore, decimalsMore, exponentSign}
+use Rattle.rules.specs.Reading.{over, isDigit, extended, unsigned, wholeMore, decimalsMore, exponentSign}
 use Rattle.theorems.proofs.Counting.{length-numeral}
 use Rattle.theorems.proofs.LaidOut.{Laid, whole, inner, small, tiny, large, minute, laid}
 use Rattle.theorems.proofs.Runs.{drop-numeral, take-numeral, zeros-before, unsigned-numeral, whole-zeros, point-numeral, whole-e, decimals-e, exponent-up, exponent-down}

@@ -1,23 +1,22 @@
 -- A pattern's neighbours, one pattern below and one above: how far their magnitudes are from its own. Assumes nothing.
-use mathlib.Core.Bool.{not}
 use mathlib.Core.Logic.{_⊎_, inl, inr, ⊎-elim}
 use mathlib.Core.Path.{_≡_, refl, sym, ap, _∙_}
-use Prim.Native.Nat.{ℕ, zero, suc, _+_, _-_, _*_, _/_, _%_, _^_, _≤_, _<_}
+use Prim.Native.Nat.{ℕ, suc, _+_, _-_, _*_, _/_, _%_, _^_, _≤_, _<_}
 use native.Mathlib.Nat.{div-add-mod', mod-eq-of-lt, mod-lt, mul-le-mul-right}
 use native.Mathlib.Omega.{arith}
 use lib.Arith.{digits-div, digits-mod}
-use lib.Dec.{T, eqb, eqb→eq, T-not}
+use lib.Dec.{eqb, eqb→eq, T-not}
 use lib.Ieee.Fits.{eq→eqb}
 use lib.Pow.{pow-add, pow-mono, pow-pos}
 use Rattle.laws.proofs.Branches.{either, which}
 use Rattle.laws.proofs.Powers.{two-halves}
 use Rattle.rules.specs.Width.{Width}
-use Rattle.rules.specs.Pattern.{Pair, biased, significand, allOnes, special, magnitude}
+use Rattle.rules.specs.Pattern.{Pair, biased, allOnes, magnitude}
 use Rattle.rules.specs.Boundaries.{below}
 use Rattle.rules.specs.Reading.{infinity, top, worth}
 use Rattle.rules.specs.Midpoints.{midpointBelow, midpointAbove}
 use Rattle.theorems.proofs.Readable.{Readable}
-use Rattle.theorems.proofs.Units.{unitsOf, Placed, place, placed}
+use Rattle.theorems.proofs.Units.{unitsOf, placed}
 use Rattle.theorems.proofs.Worth.{bare, at, bare-is, bare-rest, no-sign, worth-bare}
 
 -- One more and one less, modulo M.

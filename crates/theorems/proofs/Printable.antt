@@ -1,5 +1,4 @@
 -- What printing asks of a width beyond its laws: digits and exponents that 25 bytes have room for. Assumes nothing.
-use mathlib.Core.Path.{_≡_}
 use Prim.Native.Nat.{ℕ, _+_, _*_, _/_, _^_, _≤_}
 use lib.Dec.{lit≤, lit<}
 use lib.ListN.{length}

@@ -1,11 +1,11 @@
 -- What is printed reads back: the text of a finite pattern lies strictly between the pattern's midpoints, reads as the pattern and as no other,
 -- and no two finite patterns of a width share a text. Assumes nothing.
-use mathlib.Core.Bool.{Bool, true, false, not}
+use mathlib.Core.Bool.{Bool, not}
 use mathlib.Core.List.{List}
 use mathlib.Core.Logic.{_⊎_, inl, inr, ⊎-elim}
-use mathlib.Core.Path.{_≡_, refl, sym, ap, ap₂, _∙_, subst}
-use Prim.Native.Nat.{ℕ, zero, suc, _+_, _-_, _*_, _/_, _%_, _^_, _≤_, _<_, min}
-use native.Mathlib.Nat.{div-add-mod', div-lt-iff-lt-mul, mod-lt, lt-of-mul-lt-mul-right, mul-lt-mul-of-pos-right, mul-le-mul-right, eq-or-lt-of-le, le-of-lt, min-eq-right}
+use mathlib.Core.Path.{_≡_, refl, sym, ap, ap₂, _∙_}
+use Prim.Native.Nat.{ℕ, zero, suc, _+_, _-_, _*_, _/_, _^_, _≤_, _<_, min}
+use native.Mathlib.Nat.{mod-lt, lt-of-mul-lt-mul-right, mul-lt-mul-of-pos-right, mul-le-mul-right, eq-or-lt-of-le, le-of-lt, min-eq-right}
 use native.Mathlib.Omega.{arith}
 use lib.Dec.{T, eqb, eqb→eq, T-not}
 use lib.Ieee.{Format, round, ofBits, toBits}
@@ -16,24 +16,23 @@ use lib.Pow.{pow-pos}
 use lib.Signed.{mag}
 use Rattle.laws.proofs.Branches.{either, which}
 use Rattle.laws.proofs.Differences as difference
-use Rattle.laws.proofs.Powers.{ten-pos, two-halves}
+use Rattle.laws.proofs.Powers.{ten-pos}
 use Rattle.rules.specs.Bytes.{bytes}
 use Rattle.rules.specs.Numbers.{numeral}
 use Rattle.rules.specs.Width.{Width, off}
-use Rattle.rules.specs.Pattern.{Pair, negative, biased, significand, allOnes, special, magnitude}
-use Rattle.rules.specs.Boundaries.{below}
+use Rattle.rules.specs.Pattern.{Pair, negative, biased, allOnes, special, magnitude}
 use Rattle.rules.specs.Digits.{decimal}
 use Rattle.rules.specs.Layout.{layout}
 use Rattle.rules.specs.Text.{shown, signed, text}
-use Rattle.rules.specs.Reading.{Exact, number, exact, over, isDigit, extended, decimalsMore, decimalsFirst, wholeMore, unsigned, infinity, top, low, worth, IsNearest, unbounded, nearest, withSign, ReadsAs}
+use Rattle.rules.specs.Reading.{number, exact, over, isDigit, extended, decimalsMore, decimalsFirst, wholeMore, unsigned, infinity, top, low, IsNearest, unbounded, nearest, withSign, ReadsAs}
 use Rattle.rules.specs.Midpoints.{midpointBelow, midpointAbove, Between}
 use Rattle.theorems.proofs.Boundaries.{Finite}
 use Rattle.theorems.proofs.Scale.{finite}
 use Rattle.theorems.proofs.Printable.{Printable}
-use Rattle.theorems.proofs.Decimal.{Printed, printed}
+use Rattle.theorems.proofs.Decimal.{printed}
 use Rattle.theorems.proofs.LayoutReads.{Says, layout-says}
 use Rattle.theorems.proofs.Units.{unitsOf, units-rise}
-use Rattle.theorems.proofs.Worth.{bare, at, bare-rest, no-sign, off-units, worth-bare, significand-small}
+use Rattle.theorems.proofs.Worth.{bare, at, no-sign, off-units, worth-bare, significand-small}
 use Rattle.theorems.proofs.Signs.{rejoined}
 use Rattle.theorems.proofs.Nearest.{only-nearest}
 use Rattle.theorems.proofs.Midpoints.{between-midpoints, below-first, up-to-top}

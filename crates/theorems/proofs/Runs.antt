@@ -1,14 +1,14 @@
 -- Runs of digits as the exact reading takes them: each digit moves the number so far up by one place. Assumes nothing.
-use mathlib.Core.Bool.{Bool, true, false, not, _&&_}
+use mathlib.Core.Bool.{Bool, true, false, _&&_}
 use mathlib.Core.List.{List, [], _∷_, _++_, append-nil}
 use mathlib.Core.Path.{_≡_, refl, sym, ap, ap₂, _∙_}
 use Prim.Native.Nat.{ℕ, zero, suc, _+_, _-_, _*_, _/_, _%_, _^_, _≤_, _<_}
-use native.Mathlib.Nat.{add-zero, div-div-eq-div-mul, div-eq-of-lt, div-lt-iff-lt-mul, lt-of-lt-of-le, mod-eq-of-lt, mod-lt, mod-one, pow-le-pow-right, pow-succ', suc-add, zero-add, zero-div, zero-lt-suc, add-comm}
+use native.Mathlib.Nat.{div-div-eq-div-mul, div-eq-of-lt, lt-of-lt-of-le, mod-eq-of-lt, mod-lt, mod-one, pow-le-pow-right, pow-succ', suc-add, zero-add, zero-div, zero-lt-suc, add-comm}
 use native.Mathlib.Omega.{arith}
 use lib.Arith.{mod-mul}
-use lib.Dec.{T, leb, ltb, eqb, eqb→eq, le→leb, lt→ltb, T-not}
+use lib.Dec.{T, leb, ltb, eqb, eqb→eq, le→leb, lt→ltb}
 use lib.IntN.{pos, negsuc}
-use lib.ListN.{length, take, drop}
+use lib.ListN.{take, drop}
 use lib.Pow.{pow-add}
 use Rattle.laws.proofs.Branches.{and-both, either, taken}
 use Rattle.laws.proofs.Powers.{ten-pos}

@@ -1,27 +1,27 @@
 -- The text of every pattern has 3 to 25 bytes, and a call leaves a buffer as long as it was. Assumes nothing.
-use mathlib.Core.Bool.{Bool, true, false, not}
-use mathlib.Core.List.{List, _∷_, _++_}
-use mathlib.Core.Path.{_≡_, refl, ap}
-use Prim.Native.Nat.{ℕ, _+_, _≤_, _<_}
+use mathlib.Core.Bool.{not}
+use mathlib.Core.List.{List}
+use mathlib.Core.Path.{_≡_, refl}
+use Prim.Native.Nat.{ℕ, _≤_, _<_}
 use native.Mathlib.Nat.{pos-of-ne-zero}
 use native.Mathlib.Omega.{arith}
-use lib.Dec.{T, eqb, eqb→eq, ltb, ltb→lt, nltb→le, T-not}
-use lib.ListN.{length, drop, length-append, length-drop}
+use lib.Dec.{T, eqb, eqb→eq, ltb, nltb→le, T-not}
+use lib.ListN.{length, length-append, length-drop}
 use Rattle.laws.proofs.Branches.{either}
-use Rattle.rules.specs.Bytes.{bytes, minus}
+use Rattle.rules.specs.Bytes.{bytes}
 use Rattle.rules.specs.Numbers.{numeral}
 use Rattle.rules.specs.Width.{Width}
 use Rattle.rules.specs.Pattern.{Pair, negative, significand, special, magnitude}
 use Rattle.rules.specs.Digits.{decimal}
 use Rattle.rules.specs.Layout.{layout}
 use Rattle.rules.specs.Text.{shown, signed, text}
-use Rattle.rules.specs.Answer.{Entry, refuses, number, answer, after}
+use Rattle.rules.specs.Answer.{Entry, number, after}
 use Rattle.theorems.proofs.Counting.{length-numeral}
 use Rattle.theorems.proofs.LayoutLength.{Spans, layout-length}
 use Rattle.theorems.proofs.Boundaries.{Finite}
 use Rattle.theorems.proofs.Scale.{finite}
 use Rattle.theorems.proofs.Printable.{Printable}
-use Rattle.theorems.proofs.Decimal.{Printed, printed}
+use Rattle.theorems.proofs.Decimal.{printed}
 
 -- A length from 3 to n.
 pub record Within (n : ℕ) (t : List ℕ) : Type 0 where
