@@ -14,7 +14,7 @@ use Rattle.rules.specs.Tables.{raised, significands32, exponents32, sign
 use Rattle.rules.specs.Width.{Width, w32, w64, off}
 use Rattle.rules.specs.Pattern.{negative, biased, significand, allOnes, special, magnitude}
 use Rattle.rules.specs.Boundaries.{shifted, upper, below, lower, value}
-use Rattle.rules.specs.Power.{leastTen, jRaised, j, k, index}
+use Rattle.rules.specs.Power.{leastTen, jRaised, j, k, index, P}
 use Rattle.rules.specs.Product.{product}
 use Rattle.rules.specs.Scaled.{scaled, D}
 use Rattle.rules.specs.Digits.{above, under, placesUnder, places, c, first, closer, falls, decimal}
@@ -203,5 +203,5 @@ list =
     ∷ []
 
 pub examples : T (all list)
-unfolding all holds equal buffer joins is-pattern is-refused list bytes countUpTo count numeral plain raised significands32 exponents32 significands64 exponents64 w32 w64 off negative biased significand allOnes special magnitude shifted upper below lower value leastTen jRaised j k index product scaled D above under placesUnder places c first closer falls decimal zeros joined trimmed oneKept decimals exponent scientific byRule layout shown signed text isDigit extended powered exponentMore exponentFirst exponentSign decimalsMore decimalsFirst wholeMore unsigned same withFraction magnitudeOf exact infinity top low size unbounded nearest withSign refuses number answer after
+unfolding all holds equal buffer joins is-pattern is-refused list bytes countUpTo count numeral plain raised significands32 exponents32 significands64 exponents64 w32 w64 off negative biased significand allOnes special magnitude shifted upper below lower value leastTen jRaised j k index P product scaled D above under placesUnder places c first closer falls decimal zeros joined trimmed oneKept decimals exponent scientific byRule layout shown signed text isDigit extended powered exponentMore exponentFirst exponentSign decimalsMore decimalsFirst wholeMore unsigned same withFraction magnitudeOf exact infinity top low size unbounded nearest withSign refuses number answer after
 examples = tt

@@ -2,10 +2,11 @@
 use Prim.Native.Nat.{ℕ, zero, suc, _+_, _-_, _*_, _/_, _%_, _^_}
 use mathlib.Core.Bool.{Bool, true, false, _&&_, _||_}
 use lib.Dec.{leb, ltb}
-use lib.IntN.{ℤ, subℕ}
+use lib.IntN.{ℤ, subℕ, _-ℤ_}
 use Rattle.rules.specs.Numbers.{count}
 use Rattle.rules.specs.Width.{Width}
 use Rattle.rules.specs.Pattern.{Pair}
+use Rattle.rules.specs.Power.{P}
 use Rattle.rules.specs.Scaled.{Scaled, scaled, D}
 
 -- What a place p = up - down leaves: the digits as one number, the rest, and what the falls are measured by.
@@ -83,5 +84,5 @@ decimal w m =
     record {
       len = count (f .digits);
       digits = f .digits - falls f 10 (f .rest);
-      k = subℕ (f .up + w .tens) (f .down + 8 * b .at);
+      k = subℕ (f .up) (f .down) -ℤ P w (b .at);
     }

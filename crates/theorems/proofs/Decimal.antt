@@ -4,7 +4,7 @@ use mathlib.Core.Path.{_≡_, refl, sym, ap, _∙_}
 use Prim.Native.Nat.{ℕ, suc, _+_, _-_, _*_, _/_, _^_, _≤_, _<_}
 use native.Mathlib.Nat.{lt-of-mul-lt-mul-right, mul-le-mul-left, mul-le-mul-right, mul-lt-mul-of-pos-right, one-mul, pow-succ', div-lt-iff-lt-mul, le-div-iff-mul-le}
 use native.Mathlib.Omega.{arith}
-use lib.IntN.{subℕ}
+use lib.IntN.{ℤ, subℕ, _+ℤ_}
 use lib.Pow.{pow-add, pow-mono, pow-pos}
 use lib.Signed.{mag}
 use Rattle.laws.proofs.Branches.{which}
@@ -15,7 +15,7 @@ use Rattle.rules.specs.Numbers.{count}
 use Rattle.rules.specs.Width.{Width, off}
 use Rattle.rules.specs.Pattern.{Pair}
 use Rattle.rules.specs.Boundaries.{upper, below}
-use Rattle.rules.specs.Power.{jRaised}
+use Rattle.rules.specs.Power.{P, jRaised}
 use Rattle.rules.specs.Scaled.{Scaled, scaled}
 use Rattle.rules.specs.Digits.{c, first, decimal}
 use Rattle.theorems.proofs.Counting.{count-above, count-least, count-pos, count-reaches, count-first}
@@ -109,12 +109,14 @@ module _ (w : Width) (q : ℕ) (p : Printable w q) (m : Pair) (h : Finite w m) w
 
   -- The decimal of a finite magnitude.
   pub printed : Printed w q m
-  unfolding decimal
+  unfolding decimal P
   printed =
       let f = first b in
       let length = length-of-digits b apart (omega (arith, facts .least-whole)) in
       let high : f .up ≤ 8 = up-most b apart 8 (omega (arith, facts .most-whole)) in
       let low : f .down ≤ q = down-most b apart q (facts .relative) (omega (arith, facts .least-whole)) in
+      let k-is : decimal w m .k ≡ subℕ (f .up + w .tens) (f .down + 8 * b .at) =
+      ap (λ (z : ℤ). subℕ (f .up) (f .down) +ℤ z) (difference.minus (8 * b .at) (w .tens)) ∙ difference.add (f .up) (f .down) (w .tens) (8 * b .at) in
       let near : mag (subℕ (f .up + w .tens) (f .down + 8 * b .at)) < 1000 =
       difference.bounded 1000 (f .up + w .tens) (f .down + 8 * b .at) (omega (arith, p .low)) (omega (arith, facts .inside, p .high, p .few)) in
       let bounds = between b apart in
@@ -125,8 +127,8 @@ module _ (w : Width) (q : ℕ) (p : Printable w q) (m : Pair) (h : Finite w m) w
         above-zero = printed-pos b apart low-some;
         up = f .up + w .tens;
         down = f .down + 8 * b .at;
-        k-is = refl;
-        near = near;
+        k-is = k-is;
+        near = rw k-is near;
         kk-least = omega (arith, power-most, c-least b);
         under-upper =
             rw (pow-add 10 (f .up) (w .tens), pow-add 10 (f .down) (8 * b .at))
