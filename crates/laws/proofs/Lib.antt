@@ -2,5 +2,6 @@ pub mod Branches
 pub mod Tests
 pub mod Powers
 pub mod Differences
+pub mod Signed
 pub mod Exponents
 pub mod Closest

@@ -58,7 +58,7 @@ pub record Finite (w : Width) (m : Pair) : Type 0 where
   pub most-exponent : m .exp < allOnes w + w .N
 
 -- A number shifted until bit n - 1 is set would not fit if it were shifted further.
-no-further : (f n p q : ℕ) → 2 ^ n ≡ 2 * 2 ^ (n - 1) → 2 ^ (n - 1) ≤ f * 2 ^ p → f * 2 ^ q < 2 ^ n → q ≤ p
+pub no-further : (f n p q : ℕ) → 2 ^ n ≡ 2 * 2 ^ (n - 1) → 2 ^ (n - 1) ≤ f * 2 ^ p → f * 2 ^ q < 2 ^ n → q ≤ p
 no-further f n p q two top fits =
     le-of-suc-le-suc (lesser-exponent q (suc p) (lt-of-mul-lt-mul-left f (omega (arith, ap (λ (z : ℕ). f * z) (pow-succ' 2 p)))))
 

@@ -1,0 +1,3 @@
+pub mod Standing
+pub mod Splitting
+pub mod Shifting

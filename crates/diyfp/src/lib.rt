@@ -1,0 +1,149 @@
+// Pairs of a significand and a binary exponent, f * 2^e, in 32 and in 64 bits: from a pattern to its boundaries and their scale.
+ghost use mathlib.Core.Path.{_≡_};
+ghost use Prim.Native.Nat.{ℕ};
+ghost use lib.IntN.{subℕ};
+ghost use Rattle.rules.specs.Width.{w32, w64, off};
+ghost use Rattle.rules.specs.Pattern.{Pair, magnitude};
+ghost use Rattle.rules.specs.Boundaries.{shifted, below};
+ghost use Rattle.rules.specs.Power.{index};
+ghost use Rattle.rules.proofs.Boundaries.{Finite};
+ghost use Rattle.diyfp.specs.Pairs.{Stands, StandsIn, Shiftable, Bounds, Near, Times};
+ghost use Rattle.diyfp.specs.Powers.{Served, Cached};
+
+// The number f * 2^e, with 32 bits for f.
+pub struct DiyFp32 {
+    pub f: u32,
+    pub e: i32,
+}
+
+// The lower and the upper boundary of a magnitude, at one exponent.
+pub struct Boundaries32 {
+    pub minus: DiyFp32,
+    pub plus: DiyFp32,
+}
+
+// A power of ten, 10^-k.
+pub struct CachedPower32 {
+    pub power: DiyFp32,
+    pub k: i32,
+}
+
+const HIDDEN_BIT_32: u32 = 0x0080_0000;
+
+impl DiyFp32 {
+    // The magnitude of a finite pattern.
+    pub fn from_bits(bits: u32) -> DiyFp32
+        ensures { λ r. ⌜ Stands w32 (magnitude w32 bits) (r .f) (r .e) ⌝ }
+    {
+        let biased_e = ((bits & 0x7F80_0000) >> 23) as i32;
+        let significand = bits & 0x007F_FFFF;
+        if biased_e != 0 {
+            DiyFp32 {
+                f: significand + HIDDEN_BIT_32,
+                e: biased_e - 0x7F - 23,
+            }
+        } else {
+            DiyFp32 {
+                f: significand,
+                e: 1 - 0x7F - 23,
+            }
+        }
+    }
+
+    // Shifted left until bit 31 is set.
+    pub fn normalize(self) -> DiyFp32
+        requires { ⌜ StandsIn w32 (Shiftable w32 32) (self .f) (self .e) ⌝ }
+        ensures { λ r. ⌜ ((m : Pair) → Stands w32 m (self .f) (self .e) → Stands w32 (shifted 32 32 m) (r .f) (r .e)) ⌝ }
+    {
+        let mut res = self;
+        while (res.f & (1 << 31)) == 0 {
+            res.f <<= 1;
+            res.e -= 1;
+        }
+        res
+    }
+
+    // The same for a significand of at most 25 bits: to the bit above the hidden bit one by one, and the last 7 in one step.
+    fn normalize_boundary(self) -> DiyFp32
+        requires { ⌜ StandsIn w32 (Shiftable w32 25) (self .f) (self .e) ⌝ }
+        ensures { λ r. ⌜ ((m : Pair) → Stands w32 m (self .f) (self .e) → Stands w32 (shifted 32 32 m) (r .f) (r .e)) ⌝ }
+    {
+        let mut res = self;
+        while (res.f & (HIDDEN_BIT_32 << 1)) == 0 {
+            res.f <<= 1;
+            res.e -= 1;
+        }
+        res.f <<= 7;
+        res.e -= 7;
+        res
+    }
+}
+
+// The number f * 2^e, with 64 bits for f.
+pub struct DiyFp64 {
+    pub f: u64,
+    pub e: i32,
+}
+
+// The lower and the upper boundary of a magnitude, at one exponent.
+pub struct Boundaries64 {
+    pub minus: DiyFp64,
+    pub plus: DiyFp64,
+}
+
+// A power of ten, 10^-k.
+pub struct CachedPower64 {
+    pub power: DiyFp64,
+    pub k: i32,
+}
+
+const HIDDEN_BIT_64: u64 = 0x0010_0000_0000_0000;
+
+impl DiyFp64 {
+    // The magnitude of a finite pattern.
+    pub fn from_bits(bits: u64) -> DiyFp64
+        ensures { λ r. ⌜ Stands w64 (magnitude w64 bits) (r .f) (r .e) ⌝ }
+    {
+        let biased_e = ((bits & 0x7FF0_0000_0000_0000) >> 52) as i32;
+        let significand = bits & 0x000F_FFFF_FFFF_FFFF;
+        if biased_e != 0 {
+            DiyFp64 {
+                f: significand + HIDDEN_BIT_64,
+                e: biased_e - 0x3FF - 52,
+            }
+        } else {
+            DiyFp64 {
+                f: significand,
+                e: 1 - 0x3FF - 52,
+            }
+        }
+    }
+
+    // Shifted left until bit 63 is set.
+    pub fn normalize(self) -> DiyFp64
+        requires { ⌜ StandsIn w64 (Shiftable w64 64) (self .f) (self .e) ⌝ }
+        ensures { λ r. ⌜ ((m : Pair) → Stands w64 m (self .f) (self .e) → Stands w64 (shifted 64 64 m) (r .f) (r .e)) ⌝ }
+    {
+        let mut res = self;
+        while (res.f & (1 << 63)) == 0 {
+            res.f <<= 1;
+            res.e -= 1;
+        }
+        res
+    }
+
+    // The same for a significand of at most 54 bits: to the bit above the hidden bit one by one, and the last 10 in one step.
+    fn normalize_boundary(self) -> DiyFp64
+        requires { ⌜ StandsIn w64 (Shiftable w64 54) (self .f) (self .e) ⌝ }
+        ensures { λ r. ⌜ ((m : Pair) → Stands w64 m (self .f) (self .e) → Stands w64 (shifted 64 64 m) (r .f) (r .e)) ⌝ }
+    {
+        let mut res = self;
+        while (res.f & (HIDDEN_BIT_64 << 1)) == 0 {
+            res.f <<= 1;
+            res.e -= 1;
+        }
+        res.f <<= 10;
+        res.e -= 10;
+        res
+    }
+}
