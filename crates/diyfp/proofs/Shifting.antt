@@ -9,12 +9,12 @@ use lib.Dec.{lit<, lit≤}
 use lib.IntN.{ℤ, pos, _-ℤ_}
 use lib.Pow.{pow-pos, pow-add, pow-mono}
 use mir.Syntax.{w32}
-use mir.Val.{SFits, toZ, ofZ}
+use mir.Val.{SFits}
 use Rattle.laws.proofs.Branches.{which}
 use Rattle.laws.proofs.Differences.{same}
 use Rattle.laws.proofs.Exponents.{lesser-exponent}
 use Rattle.laws.proofs.Powers.{two-halves}
-use Rattle.laws.proofs.Signed.{Is, Held, Apart, held, less}
+use Rattle.laws.proofs.Signed.{read, Is, Held, Apart, held, less}
 use Rattle.rules.specs.Width as rules
 use Rattle.rules.specs.Width.{Width, off}
 use Rattle.rules.specs.Pattern.{Pair, allOnes}
@@ -85,7 +85,7 @@ module _ {w : Width} {n : ℕ} {m : Pair} (narrow : Narrow w) (h : Shiftable w n
     number = rw (g .number, pow-add, mul-assoc)
 
     -- A shift by d, to l bits: an i32 holds the exponent's fall ..
-    falls : Held (toZ w32 (ofZ w32 e) -ℤ pos d) (m .exp) (off w + g .by + d)
+    falls : Held (read e -ℤ pos d) (m .exp) (off w + g .by + d)
     falls = less d (held (g .exponent) near .back) (omega (arith, near, few-left, narrow .under))
       where
         few-left : g .by + d < l
@@ -95,7 +95,7 @@ module _ {w : Width} {n : ℕ} {m : Pair} (narrow : Narrow w) (h : Shiftable w n
         near = omega (arith, h .most-exponent, narrow .above, narrow .under, few-left)
 
     -- .. and the pair is still on its way.
-    goes : Going w l m (f * 2 ^ d) (toZ w32 (ofZ w32 (toZ w32 (ofZ w32 e) -ℤ pos d)))
+    goes : Going w l m (f * 2 ^ d) (read (read e -ℤ pos d))
     goes = record { by = g .by + d; number = number; exponent = rw add-assoc at (falls .back); fits = fits }
 
   -- With bit N - 1 set, it is there.
@@ -132,9 +132,9 @@ Kept w k f₀ e₀ f e = (m : Pair) → Stands w m f₀ e₀ → Going w k m f e
 
 -- A shift by d in a word of W numbers: an i32 holds the exponent's fall, the significand grows, and the loop's fact is kept.
 pub record Step (w : Width) (l W : ℕ) (f₀ : ℕ) (e₀ : ℤ) (f d : ℕ) (e : ℤ) : Type 0 where
-  pub falls : SFits w32 (toZ w32 (ofZ w32 e) -ℤ pos d)
+  pub falls : SFits w32 (read e -ℤ pos d)
   pub grows : W - f * 2 ^ d % W < W - f
-  pub keeps : Kept w l f₀ e₀ (f * 2 ^ d % W) (toZ w32 (ofZ w32 (toZ w32 (ofZ w32 e) -ℤ pos d)))
+  pub keeps : Kept w l f₀ e₀ (f * 2 ^ d % W) (read (read e -ℤ pos d))
 
 module _ {w : Width} {n : ℕ} {f₀ : ℕ} {e₀ : ℤ} (narrow : Narrow w) (p : StandsIn w (Shiftable w n) f₀ e₀) where
   -- Where the loop begins.

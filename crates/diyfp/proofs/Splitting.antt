@@ -8,10 +8,10 @@ use lib.IntN.{ℤ, pos, _-ℤ_}
 use lib.Pow.{shl-shr}
 use mir.Facts.{eqb-no}
 use mir.Syntax.{w32}
-use mir.Val.{toZ, ofZ}
+use mir.Val.{toZ}
 use Rattle.laws.proofs.Branches.{either}
 use Rattle.laws.proofs.Differences.{same}
-use Rattle.laws.proofs.Signed.{Is, Held, natural, less}
+use Rattle.laws.proofs.Signed.{read, Is, Held, natural, less}
 use Rattle.rules.specs.Width.{Width, off}
 use Rattle.rules.specs.Pattern.{Pair, biased, significand, magnitude}
 use Rattle.diyfp.specs.Pairs.{Stands}
@@ -23,7 +23,7 @@ field v j s = ap (λ (x : ℕ). x / 2 ^ s) (and-high v j s) ∙ shl-shr (v / 2 ^
 -- A biased exponent b, less the bias, and then less s.
 pub record Unbiased (b bias s : ℕ) : Type 0 where
   pub once : Held (toZ w32 b -ℤ pos bias) b (0 + bias)
-  pub twice : Held (toZ w32 (ofZ w32 (toZ w32 b -ℤ pos bias)) -ℤ pos s) b (0 + bias + s)
+  pub twice : Held (read (toZ w32 b -ℤ pos bias) -ℤ pos s) b (0 + bias + s)
 
 pub unbiased : {b : ℕ} (bias s : ℕ) → b < 2 ^ 31 → bias + s ≤ 2 ^ 31 → Unbiased b bias s
 unbiased bias s small near =

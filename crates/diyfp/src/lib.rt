@@ -77,6 +77,41 @@ impl DiyFp32 {
         res.e -= 7;
         res
     }
+
+    // The lower boundary where it lies, before it is brought to the upper's exponent.
+    fn below(self) -> DiyFp32
+        requires { ⌜ StandsIn w32 (Finite w32) (self .f) (self .e) ⌝ }
+        ensures { λ r. ⌜ ((m : Pair) → Stands w32 m (self .f) (self .e) → Stands w32 (below w32 m) (r .f) (r .e)) ⌝ }
+    {
+        if self.f == HIDDEN_BIT_32 {
+            return DiyFp32 {
+                f: (self.f << 2) - 1,
+                e: self.e - 2,
+            };
+        }
+        DiyFp32 {
+            f: (self.f << 1) - 1,
+            e: self.e - 1,
+        }
+    }
+
+    // The two boundaries of a finite magnitude other than zero.
+    pub fn normalized_boundaries(self) -> Boundaries32
+        requires { ⌜ StandsIn w32 (Finite w32) (self .f) (self .e) ⌝ }
+        ensures { λ r. ⌜ ((m : Pair) → Stands w32 m (self .f) (self .e) → Bounds w32 m (r .minus .f) (r .minus .e) (r .plus .f) (r .plus .e)) ⌝ }
+    {
+        let above = DiyFp32 {
+            f: (self.f << 1) + 1,
+            e: self.e - 1,
+        };
+        let plus = above.normalize_boundary();
+        let below = self.below();
+        let minus = DiyFp32 {
+            f: below.f << (below.e - plus.e),
+            e: plus.e,
+        };
+        Boundaries32 { minus, plus }
+    }
 }
 
 // The number f * 2^e, with 64 bits for f.
@@ -145,5 +180,40 @@ impl DiyFp64 {
         res.f <<= 10;
         res.e -= 10;
         res
+    }
+
+    // The lower boundary where it lies, before it is brought to the upper's exponent.
+    fn below(self) -> DiyFp64
+        requires { ⌜ StandsIn w64 (Finite w64) (self .f) (self .e) ⌝ }
+        ensures { λ r. ⌜ ((m : Pair) → Stands w64 m (self .f) (self .e) → Stands w64 (below w64 m) (r .f) (r .e)) ⌝ }
+    {
+        if self.f == HIDDEN_BIT_64 {
+            return DiyFp64 {
+                f: (self.f << 2) - 1,
+                e: self.e - 2,
+            };
+        }
+        DiyFp64 {
+            f: (self.f << 1) - 1,
+            e: self.e - 1,
+        }
+    }
+
+    // The two boundaries of a finite magnitude other than zero.
+    pub fn normalized_boundaries(self) -> Boundaries64
+        requires { ⌜ StandsIn w64 (Finite w64) (self .f) (self .e) ⌝ }
+        ensures { λ r. ⌜ ((m : Pair) → Stands w64 m (self .f) (self .e) → Bounds w64 m (r .minus .f) (r .minus .e) (r .plus .f) (r .plus .e)) ⌝ }
+    {
+        let above = DiyFp64 {
+            f: (self.f << 1) + 1,
+            e: self.e - 1,
+        };
+        let plus = above.normalize_boundary();
+        let below = self.below();
+        let minus = DiyFp64 {
+            f: below.f << (below.e - plus.e),
+            e: plus.e,
+        };
+        Boundaries64 { minus, plus }
     }
 }

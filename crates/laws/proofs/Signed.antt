@@ -1,7 +1,8 @@
 -- Numbers below zero in an i32, as differences of naturals: a local holds the bits of a number, and gives it back. Assumes nothing.
 use mathlib.Core.Path.{_≡_, sym, subst, _∙_}
-use Prim.Native.Nat.{ℕ, _+_, _*_, _/_, _^_, _≤_, _<_}
+use Prim.Native.Nat.{ℕ, _+_, _-_, _*_, _/_, _^_, _≤_, _<_}
 use native.Mathlib.Nat.{add-zero}
+use native.Mathlib.Omega.{arith}
 use lib.IntN.{ℤ, pos, subℕ, _+ℤ_, _-ℤ_, _*ℤ_}
 use lib.Signed.{mag, shrZ}
 use mir.Facts.{toZ-ofZ, toZ-pos}
@@ -14,10 +15,14 @@ use Rattle.laws.proofs.Differences.{bounded, is-pos}
 pub record Is (z : ℤ) (a b : ℕ) : Type 0 where
   pub is : z ≡ subℕ a b
 
+-- What is read from an i32 that z was written to.
+abbrev pub read : ℤ → ℤ
+read z = toZ w32 (ofZ w32 z)
+
 -- An i32 holds z, and gives a - b back.
 pub record Held (z : ℤ) (a b : ℕ) : Type 0 where
   pub fits : SFits w32 z
-  pub back : Is (toZ w32 (ofZ w32 z)) a b
+  pub back : Is (read z) a b
 
 -- The numbers a and b are near enough for an i32 to hold a - b.
 pub record Apart (a b : ℕ) : Type 0 where
@@ -43,9 +48,16 @@ more {a = a} {b = b} n p = held (record { is = rw (p .is) (differences.more a b 
 pub less : {y : ℤ} {a b : ℕ} (n : ℕ) → Is y a b → Apart a (b + n) → Held (y -ℤ pos n) a (b + n)
 less {a = a} {b = b} n p = held (record { is = rw (p .is) (differences.less a b n) })
 
+pub apart : {y z : ℤ} {a b c d : ℕ} → Is y a b → Is z c d → Apart (a + d) (b + c) → Held (y -ℤ z) (a + d) (b + c)
+apart {a = a} {b = b} {c = c} {d = d} p q = held (record { is = rw (p .is, q .is, differences.minus c d) (differences.add a b d c) })
+
 pub scaled : {y : ℤ} {a b : ℕ} (n : ℕ) → Is y a b → Apart (a * n) (b * n) → Held (y *ℤ pos n) (a * n) (b * n)
 scaled {a = a} {b = b} n p = held (record { is = rw (p .is) (differences.scaled a b n) })
 
 -- A shift rounds down. Here b is a multiple of n, so that the quotient's second number is whole.
 pub floored : {y : ℤ} {a b : ℕ} (n q : ℕ) → 0 < n → b ≡ q * n → Is y a b → Is (shrZ y n) (a / n) q
 floored {a = a} {b = b} n q some whole p = record { is = rw (p .is, whole) (differences.floored a q n some) }
+
+-- Where a is at least b, the number is a natural one.
+pub at-least : {z : ℤ} {a b : ℕ} → Is z a b → b ≤ a → z ≡ pos (a - b)
+at-least {z} {a} {b} p more = p .is ∙ sym (is-pos (a - b) a b (omega arith))

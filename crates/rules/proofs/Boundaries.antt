@@ -145,7 +145,8 @@ module _ (w : Width) (q : ℕ) (s : Sound w q) (m : Pair) (h : Finite w m) where
   pub upper-exact : upper w m .f * 2 ^ upper w m .exp ≡ (2 * m .f + 1) * 2 ^ (m .exp - 1)
   upper-exact = same-number upper-shifted
 
-  below-exponent : upper w m .exp ≤ below w m .exp
+  -- The lower boundary lies no lower than the exponent it is brought to.
+  pub below-exponent : upper w m .exp ≤ below w m .exp
   unfolding below
   below-exponent =
       let low : upper w m .exp + 2 ≤ m .exp = omega (arith, upper-shifted .exponent, shift-least, s .deep) in
