@@ -2,3 +2,4 @@ pub mod Standing
 pub mod Splitting
 pub mod Shifting
 pub mod Bounding
+pub mod Multiplying

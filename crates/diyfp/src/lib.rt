@@ -112,6 +112,18 @@ impl DiyFp32 {
         };
         Boundaries32 { minus, plus }
     }
+
+    // The product: exponents added, plus 32, and the upper half of the significands' product, rounded.
+    pub fn times(self, rhs: DiyFp32) -> DiyFp32
+        requires { ⌜ Near (self .e) × Near (rhs .e) ⌝ }
+        ensures { λ r. ⌜ Times w32 (self .f) (self .e) (rhs .f) (rhs .e) (r .f) (r .e) ⌝ }
+    {
+        let tmp = (self.f as u64) * (rhs.f as u64) + (1 << 31);
+        DiyFp32 {
+            f: (tmp >> 32) as u32,
+            e: self.e + rhs.e + 32,
+        }
+    }
 }
 
 // The number f * 2^e, with 64 bits for f.
@@ -215,5 +227,25 @@ impl DiyFp64 {
             e: plus.e,
         };
         Boundaries64 { minus, plus }
+    }
+
+    // The product: exponents added, plus 64, and the upper half of the significands' product, rounded.
+    pub fn times(self, rhs: DiyFp64) -> DiyFp64
+        requires { ⌜ Near (self .e) × Near (rhs .e) ⌝ }
+        ensures { λ r. ⌜ Times w64 (self .f) (self .e) (rhs .f) (rhs .e) (r .f) (r .e) ⌝ }
+    {
+        let a = self.f >> 32;
+        let b = self.f & 0xFFFF_FFFF;
+        let c = rhs.f >> 32;
+        let d = rhs.f & 0xFFFF_FFFF;
+        let ac = a * c;
+        let bc = b * c;
+        let ad = a * d;
+        let bd = b * d;
+        let tmp = (bd >> 32) + (ad & 0xFFFF_FFFF) + (bc & 0xFFFF_FFFF) + (1 << 31);
+        DiyFp64 {
+            f: ac + (ad >> 32) + (bc >> 32) + (tmp >> 32),
+            e: self.e + rhs.e + 64,
+        }
     }
 }
