@@ -1,4 +1,6 @@
 // Pairs of a significand and a binary exponent, f * 2^e, in 32 and in 64 bits: from a pattern to its boundaries and their scale.
+mod tables;
+
 ghost use mathlib.Core.Path.{_≡_};
 ghost use Prim.Native.Nat.{ℕ};
 ghost use lib.IntN.{subℕ};
