@@ -4,3 +4,4 @@ pub mod Shifting
 pub mod Bounding
 pub mod Multiplying
 pub mod Slopes
+pub mod Indexing

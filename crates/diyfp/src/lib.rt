@@ -128,6 +128,16 @@ impl DiyFp32 {
     }
 }
 
+// The table's index for an upper boundary's exponent e: one more than k / 8 rounded down, where k = j + 35 and j is the
+// smallest whole number with 10^j >= 2^(-29 - e).
+fn cached_index32(e: i32) -> usize
+    requires { ⌜ Served w32 e ⌝ }
+    ensures { λ r. ⌜ ((E : ℕ) → e ≡ subℕ E (off w32) → r ≡ index w32 E) ⌝ }
+{
+    let k = 35 - (((e + 29) * 78913) >> 18);
+    ((k >> 3) + 1) as usize
+}
+
 // The number f * 2^e, with 64 bits for f.
 pub struct DiyFp64 {
     pub f: u64,
@@ -250,4 +260,14 @@ impl DiyFp64 {
             e: self.e + rhs.e + 64,
         }
     }
+}
+
+// The table's index for an upper boundary's exponent e: one more than k / 8 rounded down, where k = j + 347 and j is the
+// smallest whole number with 10^j >= 2^(-61 - e).
+fn cached_index64(e: i32) -> usize
+    requires { ⌜ Served w64 e ⌝ }
+    ensures { λ r. ⌜ ((E : ℕ) → e ≡ subℕ E (off w64) → r ≡ index w64 E) ⌝ }
+{
+    let k = 347 - (((e + 61) * 78913) >> 18);
+    ((k >> 3) + 1) as usize
 }

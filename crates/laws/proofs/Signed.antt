@@ -9,11 +9,15 @@ use mir.Facts.{toZ-ofZ, toZ-pos}
 use mir.Syntax.{w32}
 use mir.Val.{SFits, toZ, ofZ}
 use Rattle.laws.proofs.Differences as differences
-use Rattle.laws.proofs.Differences.{bounded, is-pos}
+use Rattle.laws.proofs.Differences.{same, bounded, is-pos}
 
 -- The number z is a - b.
 pub record Is (z : ℤ) (a b : ℕ) : Type 0 where
   pub is : z ≡ subℕ a b
+
+-- It is any other difference with the same crossed sums.
+pub also : {z : ℤ} {a b : ℕ} (c d : ℕ) → Is z a b → a + d ≡ c + b → Is z c d
+also {a = a} {b = b} c d p e = record { is = p .is ∙ same a b c d e }
 
 -- What is read from an i32 that z was written to.
 abbrev pub read : ℤ → ℤ
