@@ -5,3 +5,4 @@ pub mod Bounding
 pub mod Multiplying
 pub mod Slopes
 pub mod Indexing
+pub mod Caching

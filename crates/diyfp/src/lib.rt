@@ -138,6 +138,22 @@ fn cached_index32(e: i32) -> usize
     ((k >> 3) + 1) as usize
 }
 
+// The power of ten that scales an upper boundary of exponent e.
+pub fn get_cached_power32(e: i32) -> CachedPower32
+    requires { ⌜ Served w32 e ⌝ }
+    ensures { λ r. ⌜ ((E : ℕ) → e ≡ subℕ E (off w32) → Cached w32 E (r .power .f) (r .power .e) (r .k)) ⌝ }
+{
+    let index = cached_index32(e);
+    let power = DiyFp32 {
+        f: tables::significand32(index),
+        e: tables::exponent32(index),
+    };
+    CachedPower32 {
+        power,
+        k: 36 - (index << 3) as i32,
+    }
+}
+
 // The number f * 2^e, with 64 bits for f.
 pub struct DiyFp64 {
     pub f: u64,
@@ -270,4 +286,20 @@ fn cached_index64(e: i32) -> usize
 {
     let k = 347 - (((e + 61) * 78913) >> 18);
     ((k >> 3) + 1) as usize
+}
+
+// The power of ten that scales an upper boundary of exponent e.
+pub fn get_cached_power64(e: i32) -> CachedPower64
+    requires { ⌜ Served w64 e ⌝ }
+    ensures { λ r. ⌜ ((E : ℕ) → e ≡ subℕ E (off w64) → Cached w64 E (r .power .f) (r .power .e) (r .k)) ⌝ }
+{
+    let index = cached_index64(e);
+    let power = DiyFp64 {
+        f: tables::significand64(index),
+        e: tables::exponent64(index),
+    };
+    CachedPower64 {
+        power,
+        k: 348 - (index << 3) as i32,
+    }
 }

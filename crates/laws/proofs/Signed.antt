@@ -39,6 +39,10 @@ held {z} {a} {b} p apart =
     record { sfits = subst (λ (y : ℤ). mag y < 2 ^ 31) (sym (p .is)) (bounded (2 ^ 31) a b (apart .above) (apart .under)) } in
     record { fits = fits; back = record { is = toZ-ofZ {w = w32} {z = z} fits ∙ p .is } }
 
+-- A number that is held is read as it was written.
+pub unchanged : {z : ℤ} {a b : ℕ} → Is z a b → Apart a b → read z ≡ z
+unchanged p near = held p near .back .is ∙ sym (p .is)
+
 -- A natural number, cast.
 pub natural : {n : ℕ} → n < 2 ^ 31 → Is (toZ w32 n) n 0
 natural {n} small = record { is = toZ-pos w32 small ∙ is-pos n n 0 (add-zero n) }
