@@ -20,7 +20,7 @@ use Rattle.rules.specs.Pattern.{Pair}
 use Rattle.rules.specs.Boundaries.{shifted, upper, below, lower}
 use Rattle.rules.proofs.Boundaries.{Finite, apart, upper-shifted, value-shifted, below-exponent}
 use Rattle.rules.proofs.Widths.{Sound}
-use Rattle.diyfp.specs.Pairs.{Stands, StandsIn, Shiftable, Bounds}
+use Rattle.diyfp.specs.Pairs.{Stands, StandsIn, Becomes, Shiftable, Bounds}
 use Rattle.diyfp.proofs.Standing.{kind}
 use Rattle.diyfp.proofs.Shifting.{Narrow}
 
@@ -165,20 +165,24 @@ module _ {w : Width} {q : ℕ} (sound : Sound w q) (narrow : Narrow w) (W : ℕ)
       }
 
   -- With the upper boundary shifted, (u, y), and the lower one where it lies, (b, d), the lower one is brought to the upper's exponent.
-  module _ {b u : ℕ} {d y : ℤ} (low : (m : Pair) → Stands w m f e → Stands w (below w m) b d)
-      (high : (m : Pair) → Stands w m (f * 2 % W + 1) (read (read e -ℤ pos 1)) → Stands w (shifted (w .N) (w .N) m) u y) where
-    plus : (m : Pair) → Stands w m f e → Stands w (upper w m) u y
+  module _ {b u : ℕ} {d y : ℤ} (low : Becomes w (below w) f e b d)
+      (high : Becomes w (shifted (w .N) (w .N)) (f * 2 % W + 1) (read (read e -ℤ pos 1)) u y) where
+    plus : Becomes w (upper w) f e u y
     unfolding upper
     plus m s = high (record { f = 2 * m .f + 1; exp = m .exp - 1 }) (above-stands m s)
 
     pub brings : (m : Pair) → Stands w m f e → Brought w m W b (read d -ℤ read y)
     brings m s = brought w q sound narrow m (kind p m s) W word (low m s) (plus m s)
 
-    pub bounds : (m : Pair) → Stands w m f e →
-        Bounds w m (b * 2 ^ natAbs (read (read d -ℤ read y)) % W) (read y) u y
+    pub bounds : Bounds w f e (b * 2 ^ natAbs (read (read d -ℤ read y)) % W) (read y) u y
     unfolding lower
-    bounds m s =
+    bounds =
         record {
-          plus = plus m s;
-          minus = record { significand = brings m s .lower; exponent = held-upper w q sound narrow m (kind p m s) (plus m s .exponent) .back .is };
+          plus = plus;
+          minus =
+              λ m s.
+              record {
+                significand = brings m s .lower;
+                exponent = held-upper w q sound narrow m (kind p m s) (plus m s .exponent) .back .is;
+              };
         }

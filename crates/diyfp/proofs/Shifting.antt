@@ -20,7 +20,7 @@ use Rattle.rules.specs.Width.{Width, off}
 use Rattle.rules.specs.Pattern.{Pair, allOnes}
 use Rattle.rules.specs.Boundaries.{shifted}
 use Rattle.rules.proofs.Boundaries.{Shifted, shifts, no-further}
-use Rattle.diyfp.specs.Pairs.{Stands, StandsIn, Shiftable}
+use Rattle.diyfp.specs.Pairs.{Stands, StandsIn, Becomes, Shiftable}
 use Rattle.diyfp.proofs.Standing.{kind}
 
 -- One bit of a number, by itself.
@@ -171,8 +171,8 @@ module _ {w : Width} {n : ℕ} {f₀ : ℕ} {e₀ : ℤ} (narrow : Narrow w) (p 
       step kept k W 1 (lit< tt) room word (omega (arith, two, top-unset f (k - 1) (omega (arith, two, fits)) unset))
 
   -- Where bit N - 1 is set, the loop is done.
-  pub ends : {f : ℕ} {e : ℤ} → Kept w (w .N) f₀ e₀ f e → n ≤ w .N → 2 ^ (w .N - 1) ≤ f → (m : Pair) → Stands w m f₀ e₀ →
-      Stands w (shifted (w .N) (w .N) m) f e
+  pub ends : {f : ℕ} {e : ℤ} → Kept w (w .N) f₀ e₀ f e → n ≤ w .N → 2 ^ (w .N - 1) ≤ f →
+      Becomes w (shifted (w .N) (w .N)) f₀ e₀ f e
   ends kept small top m s = there narrow (kind p m s) (kept m s) small top
 
 pub narrow32 : Narrow rules.w32

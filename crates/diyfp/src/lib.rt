@@ -5,11 +5,11 @@ ghost use mathlib.Core.Path.{_≡_};
 ghost use Prim.Native.Nat.{ℕ};
 ghost use lib.IntN.{subℕ};
 ghost use Rattle.rules.specs.Width.{w32, w64, off};
-ghost use Rattle.rules.specs.Pattern.{Pair, magnitude};
+ghost use Rattle.rules.specs.Pattern.{magnitude};
 ghost use Rattle.rules.specs.Boundaries.{shifted, below};
 ghost use Rattle.rules.specs.Power.{index};
 ghost use Rattle.rules.proofs.Boundaries.{Finite};
-ghost use Rattle.diyfp.specs.Pairs.{Stands, StandsIn, Shiftable, Bounds, Near, Times};
+ghost use Rattle.diyfp.specs.Pairs.{Stands, StandsIn, Becomes, Shiftable, Bounds, Near, Times};
 ghost use Rattle.diyfp.specs.Powers.{Served, Cached};
 
 // The number f * 2^e, with 32 bits for f.
@@ -55,7 +55,7 @@ impl DiyFp32 {
     // Shifted left until bit 31 is set.
     pub fn normalize(self) -> DiyFp32
         requires { ⌜ StandsIn w32 (Shiftable w32 32) (self .f) (self .e) ⌝ }
-        ensures { λ r. ⌜ ((m : Pair) → Stands w32 m (self .f) (self .e) → Stands w32 (shifted 32 32 m) (r .f) (r .e)) ⌝ }
+        ensures { λ r. ⌜ Becomes w32 (shifted 32 32) (self .f) (self .e) (r .f) (r .e) ⌝ }
     {
         let mut res = self;
         while (res.f & (1 << 31)) == 0 {
@@ -68,7 +68,7 @@ impl DiyFp32 {
     // The same for a significand of at most 25 bits: to the bit above the hidden bit one by one, and the last 7 in one step.
     fn normalize_boundary(self) -> DiyFp32
         requires { ⌜ StandsIn w32 (Shiftable w32 25) (self .f) (self .e) ⌝ }
-        ensures { λ r. ⌜ ((m : Pair) → Stands w32 m (self .f) (self .e) → Stands w32 (shifted 32 32 m) (r .f) (r .e)) ⌝ }
+        ensures { λ r. ⌜ Becomes w32 (shifted 32 32) (self .f) (self .e) (r .f) (r .e) ⌝ }
     {
         let mut res = self;
         while (res.f & (HIDDEN_BIT_32 << 1)) == 0 {
@@ -83,7 +83,7 @@ impl DiyFp32 {
     // The lower boundary where it lies, before it is brought to the upper's exponent.
     fn below(self) -> DiyFp32
         requires { ⌜ StandsIn w32 (Finite w32) (self .f) (self .e) ⌝ }
-        ensures { λ r. ⌜ ((m : Pair) → Stands w32 m (self .f) (self .e) → Stands w32 (below w32 m) (r .f) (r .e)) ⌝ }
+        ensures { λ r. ⌜ Becomes w32 (below w32) (self .f) (self .e) (r .f) (r .e) ⌝ }
     {
         if self.f == HIDDEN_BIT_32 {
             return DiyFp32 {
@@ -100,7 +100,7 @@ impl DiyFp32 {
     // The two boundaries of a finite magnitude other than zero.
     pub fn normalized_boundaries(self) -> Boundaries32
         requires { ⌜ StandsIn w32 (Finite w32) (self .f) (self .e) ⌝ }
-        ensures { λ r. ⌜ ((m : Pair) → Stands w32 m (self .f) (self .e) → Bounds w32 m (r .minus .f) (r .minus .e) (r .plus .f) (r .plus .e)) ⌝ }
+        ensures { λ r. ⌜ Bounds w32 (self .f) (self .e) (r .minus .f) (r .minus .e) (r .plus .f) (r .plus .e) ⌝ }
     {
         let above = DiyFp32 {
             f: (self.f << 1) + 1,
@@ -197,7 +197,7 @@ impl DiyFp64 {
     // Shifted left until bit 63 is set.
     pub fn normalize(self) -> DiyFp64
         requires { ⌜ StandsIn w64 (Shiftable w64 64) (self .f) (self .e) ⌝ }
-        ensures { λ r. ⌜ ((m : Pair) → Stands w64 m (self .f) (self .e) → Stands w64 (shifted 64 64 m) (r .f) (r .e)) ⌝ }
+        ensures { λ r. ⌜ Becomes w64 (shifted 64 64) (self .f) (self .e) (r .f) (r .e) ⌝ }
     {
         let mut res = self;
         while (res.f & (1 << 63)) == 0 {
@@ -210,7 +210,7 @@ impl DiyFp64 {
     // The same for a significand of at most 54 bits: to the bit above the hidden bit one by one, and the last 10 in one step.
     fn normalize_boundary(self) -> DiyFp64
         requires { ⌜ StandsIn w64 (Shiftable w64 54) (self .f) (self .e) ⌝ }
-        ensures { λ r. ⌜ ((m : Pair) → Stands w64 m (self .f) (self .e) → Stands w64 (shifted 64 64 m) (r .f) (r .e)) ⌝ }
+        ensures { λ r. ⌜ Becomes w64 (shifted 64 64) (self .f) (self .e) (r .f) (r .e) ⌝ }
     {
         let mut res = self;
         while (res.f & (HIDDEN_BIT_64 << 1)) == 0 {
@@ -225,7 +225,7 @@ impl DiyFp64 {
     // The lower boundary where it lies, before it is brought to the upper's exponent.
     fn below(self) -> DiyFp64
         requires { ⌜ StandsIn w64 (Finite w64) (self .f) (self .e) ⌝ }
-        ensures { λ r. ⌜ ((m : Pair) → Stands w64 m (self .f) (self .e) → Stands w64 (below w64 m) (r .f) (r .e)) ⌝ }
+        ensures { λ r. ⌜ Becomes w64 (below w64) (self .f) (self .e) (r .f) (r .e) ⌝ }
     {
         if self.f == HIDDEN_BIT_64 {
             return DiyFp64 {
@@ -242,7 +242,7 @@ impl DiyFp64 {
     // The two boundaries of a finite magnitude other than zero.
     pub fn normalized_boundaries(self) -> Boundaries64
         requires { ⌜ StandsIn w64 (Finite w64) (self .f) (self .e) ⌝ }
-        ensures { λ r. ⌜ ((m : Pair) → Stands w64 m (self .f) (self .e) → Bounds w64 m (r .minus .f) (r .minus .e) (r .plus .f) (r .plus .e)) ⌝ }
+        ensures { λ r. ⌜ Bounds w64 (self .f) (self .e) (r .minus .f) (r .minus .e) (r .plus .f) (r .plus .e) ⌝ }
     {
         let above = DiyFp64 {
             f: (self.f << 1) + 1,
