@@ -21,8 +21,8 @@ use Rattle.rules.specs.Boundaries.{shifted, upper, below, lower}
 use Rattle.rules.proofs.Boundaries.{Finite, apart, upper-shifted, value-shifted, below-exponent}
 use Rattle.rules.proofs.Widths.{Sound}
 use Rattle.diyfp.specs.Pairs.{Stands, StandsIn, Becomes, Shiftable, Bounds}
+use Rattle.diyfp.proofs.Small.{Small}
 use Rattle.diyfp.proofs.Standing.{kind}
-use Rattle.diyfp.proofs.Shifting.{Narrow}
 
 -- Twice the significand and one has one bit more, and can be shifted.
 pub upper-shiftable : {w : Width} {m : Pair} → Finite w m → Shiftable w (w .S + 2) (record { f = 2 * m .f + 1; exp = m .exp - 1 })
@@ -34,13 +34,13 @@ upper-shiftable {w} {m} h =
       most-exponent = omega (arith, h .most-exponent);
     }
 
-module _ {w : Width} {f : ℕ} {e : ℤ} (narrow : Narrow w) (p : StandsIn w (Finite w) f e) where
+module _ {w : Width} {f : ℕ} {e : ℤ} (small : Small w) (p : StandsIn w (Finite w) f e) where
   -- An exponent d below the magnitude's.
   lowered : (d : ℕ) → d ≤ w .N → (m : Pair) → Stands w m f e → Held (read e -ℤ pos d) (m .exp) (off w + d)
   lowered d few m s =
       let h = kind p m s in
-      let near : Apart (m .exp) (off w) = omega (arith, h .most-exponent, narrow .above, narrow .under) in
-      less d (held (record { is = s .exponent }) near .back) (omega (arith, near, narrow .under))
+      let near : Apart (m .exp) (off w) = omega (arith, h .most-exponent, small .sum) in
+      less d (held (record { is = s .exponent }) near .back) (omega (arith, near, small .sum))
 
   pub falls : (d : ℕ) → d ≤ w .N → SFits w32 (read e -ℤ pos d)
   falls d few = lowered d few (p .pair) (p .stands) .fits
@@ -84,7 +84,7 @@ pub record Brought (w : Width) (m : Pair) (W b : ℕ) (z : ℤ) : Type 0 where
   pub small : natAbs (read z) < w .N
   pub lower : b * 2 ^ natAbs (read z) % W ≡ lower w m .f
 
-module _ (w : Width) (q : ℕ) (sound : Sound w q) (narrow : Narrow w) (m : Pair) (h : Finite w m) where
+module _ (w : Width) (q : ℕ) (sound : Sound w q) (small : Small w) (m : Pair) (h : Finite w m) where
   gap : ℕ
   gap = below w m .exp - upper w m .exp
 
@@ -110,10 +110,10 @@ module _ (w : Width) (q : ℕ) (sound : Sound w q) (narrow : Narrow w) (m : Pair
   up = below-exponent w q sound m h
 
   held-low : {d : ℤ} → d ≡ subℕ (below w m .exp) (off w) → Held d (below w m .exp) (off w)
-  held-low is = held (record { is = is }) (omega (arith, low, h .most-exponent, narrow .above, narrow .under))
+  held-low is = held (record { is = is }) (omega (arith, low, h .most-exponent, small .sum))
 
   held-upper : {d : ℤ} → d ≡ subℕ (upper w m .exp) (off w) → Held d (upper w m .exp) (off w)
-  held-upper is = held (record { is = is }) (omega (arith, low, up, h .most-exponent, narrow .above, narrow .under))
+  held-upper is = held (record { is = is }) (omega (arith, low, up, h .most-exponent, small .sum))
 
   brought : (W : ℕ) → 2 ^ w .N ≤ W → {b u : ℕ} {d e : ℤ} → Stands w (below w m) b d → Stands w (upper w m) u e →
       Brought w m W b (read d -ℤ read e)
@@ -128,16 +128,16 @@ module _ (w : Width) (q : ℕ) (sound : Sound w q) (narrow : Narrow w) (m : Pair
     where
       x : Held (read d -ℤ read e) (below w m .exp + off w) (off w + upper w m .exp)
       x =
-          signed.apart (held-low (l .exponent) .back) (held-upper (k .exponent) .back) (omega (arith, low, up, h .most-exponent, narrow .above))
+          signed.apart (held-low (l .exponent) .back) (held-upper (k .exponent) .back) (omega (arith, low, up, h .most-exponent, small .sum))
 
       is : read (read d -ℤ read e) ≡ pos gap
       is = at-least (x .back) (omega (arith, up)) ∙ ap pos (omega arith)
 
 -- Both boundaries of what (f, e) stands for, in a word of W numbers.
-module _ {w : Width} {q : ℕ} (sound : Sound w q) (narrow : Narrow w) (W : ℕ) (word : 2 ^ w .N ≤ W) {f : ℕ} {e : ℤ}
+module _ {w : Width} {q : ℕ} (sound : Sound w q) (small : Small w) (W : ℕ) (word : 2 ^ w .N ≤ W) {f : ℕ} {e : ℤ}
     (p : StandsIn w (Finite w) f e) where
   twice : (m : Pair) → Stands w m f e → f * 2 % W ≡ 2 * m .f
-  twice = multiple narrow p 2 W (lit≤ tt) (omega (arith, word, pow-mono {i = w .S + 3} {j = w .N} (omega (arith, sound .deep))))
+  twice = multiple small p 2 W (lit≤ tt) (omega (arith, word, pow-mono {i = w .S + 3} {j = w .N} (omega (arith, sound .deep))))
 
   -- The upper boundary before it is shifted: it fits ..
   pub above-fits : f * 2 % W + 1 < W
@@ -153,7 +153,7 @@ module _ {w : Width} {q : ℕ} (sound : Sound w q) (narrow : Narrow w) (W : ℕ)
       )
 
   above-stands : (m : Pair) → Stands w m f e → Stands w (record { f = 2 * m .f + 1; exp = m .exp - 1 }) (f * 2 % W + 1) (read (read e -ℤ pos 1))
-  above-stands m s = beside narrow p 1 (narrow .some) m s (2 * m .f + 1) (ap (λ (x : ℕ). x + 1) (twice m s))
+  above-stands m s = beside small p 1 (small .some) m s (2 * m .f + 1) (ap (λ (x : ℕ). x + 1) (twice m s))
 
   -- .. and can be shifted.
   pub above : StandsIn w (Shiftable w (w .S + 2)) (f * 2 % W + 1) (read (read e -ℤ pos 1))
@@ -172,7 +172,7 @@ module _ {w : Width} {q : ℕ} (sound : Sound w q) (narrow : Narrow w) (W : ℕ)
     plus m s = high (record { f = 2 * m .f + 1; exp = m .exp - 1 }) (above-stands m s)
 
     pub brings : (m : Pair) → Stands w m f e → Brought w m W b (read d -ℤ read y)
-    brings m s = brought w q sound narrow m (kind p m s) W word (low m s) (plus m s)
+    brings m s = brought w q sound small m (kind p m s) W word (low m s) (plus m s)
 
     pub bounds : Bounds w f e (b * 2 ^ natAbs (read (read d -ℤ read y)) % W) (read y) u y
     unfolding lower
@@ -183,6 +183,6 @@ module _ {w : Width} {q : ℕ} (sound : Sound w q) (narrow : Narrow w) (W : ℕ)
               λ m s.
               record {
                 significand = brings m s .lower;
-                exponent = held-upper w q sound narrow m (kind p m s) (plus m s .exponent) .back .is;
+                exponent = held-upper w q sound small m (kind p m s) (plus m s .exponent) .back .is;
               };
         }

@@ -3,7 +3,6 @@ use mathlib.Core.Path.{_≡_, sym, ap, subst, _∙_}
 use Prim.Native.Nat.{ℕ, _+_, _*_, _%_, _^_, _≤_, _<_}
 use native.Mathlib.Nat.{mod-eq-of-lt, mul-comm}
 use native.Mathlib.Omega.{arith}
-use lib.Dec.{lit<}
 use lib.IntN.{ℤ, pos, subℕ, _-ℤ_}
 use lib.ListN.{length, getD}
 use mir.Syntax.{w32}
@@ -11,29 +10,19 @@ use mir.Val.{toZ}
 use Rattle.laws.proofs.Differences.{same, is-pos, minus}
 use Rattle.laws.proofs.Signed as signed
 use Rattle.laws.proofs.Signed.{read, Is, Held, unchanged, natural}
-use Rattle.rules.specs.Tables.{significands32, significands64}
-use Rattle.rules.specs.Width as rules
 use Rattle.rules.specs.Width.{Width, off}
-use Rattle.rules.specs.Pattern.{allOnes}
 use Rattle.rules.specs.Power.{index, P}
 use Rattle.rules.proofs.Widths.{Sound}
 use Rattle.rules.proofs.Power.{Reach, reach}
 use Rattle.diyfp.specs.Powers.{Served, Cached}
-use Rattle.diyfp.proofs.Indexing.{most}
+use Rattle.diyfp.proofs.Small.{Small}
 
--- What is asked of a width's table, so that its numbers are held.
-pub record Tabled (w : Width) : Type 0 where
-  pub finite : allOnes w + w .S < 2 ^ 31
-  pub entries : 8 * length (w .significands) < 2 ^ 31
-  pub decimal : w .tens < 2 ^ 31
-  pub binary : off w + w .twos < 2 ^ 31
-
-module _ {w : Width} {q : ℕ} (sound : Sound w q) (tabled : Tabled w) {e : ℤ} (p : Served w e) where
+module _ {w : Width} {q : ℕ} (sound : Sound w q) (small : Small w) {e : ℤ} (p : Served w e) where
   -- The exponent itself is held.
   own : read e ≡ e
   own =
       let is : Is e (p .raised) (off w) = record { is = p .exponent } in
-      unchanged is (omega (arith, p .most, tabled .finite, tabled .binary))
+      unchanged is (omega (arith, p .most, small .sum))
 
   pub served : Served w (read e)
   served = rw own p
@@ -52,16 +41,16 @@ module _ {w : Width} {q : ℕ} (sound : Sound w q) (tabled : Tabled w) {e : ℤ}
 
     -- .. eight times i is no less in its word ..
     pub eightfold : i * 8 % 2 ^ 64 ≡ 8 * i
-    eightfold = mod-eq-of-lt (omega (arith, inside, tabled .entries)) ∙ mul-comm i 8
+    eightfold = mod-eq-of-lt (omega (arith, inside, small .sum)) ∙ mul-comm i 8
 
     decimal : Is (toZ w32 (i * 8 % 2 ^ 64)) (8 * i) 0
-    decimal = rw eightfold (natural (omega (arith, inside, tabled .entries)))
+    decimal = rw eightfold (natural (omega (arith, inside, small .sum)))
 
     -- .. the decimal exponent is held ..
     pub decimal-held : Held (pos (w .tens) -ℤ toZ w32 (i * 8 % 2 ^ 64)) (w .tens + 0) (0 + 8 * i)
     decimal-held =
         signed.apart (record { is = is-pos (w .tens) (w .tens) 0 (omega arith) }) decimal
-        (omega (arith, tabled .decimal, inside, tabled .entries))
+        (omega (arith, inside, small .sum))
 
     -- .. and so is the binary one: the pair is the entry.
     pub cached : {f : ℕ} {x : ℤ} → f ≡ getD (w .significands) i 0 → x ≡ subℕ (getD (w .exponents) i 0) (w .twos) →
@@ -71,7 +60,7 @@ module _ {w : Width} {q : ℕ} (sound : Sound w q) (tabled : Tabled w) {e : ℤ}
         let held : Is x (getD (w .exponents) i 0) (w .twos) = record { is = exponent } in
         record {
           significand = rw (sym (at E is)) significand;
-          exponent = unchanged held (omega (arith, low, tabled .binary)) ∙ rw (sym (at E is)) exponent;
+          exponent = unchanged held (omega (arith, low, small .sum)) ∙ rw (sym (at E is)) exponent;
           decimal =
               decimal-held .back .is
               ∙ rw (sym (at E is)) (same (w .tens + 0) (0 + 8 * i) (w .tens) (8 * i) (omega arith) ∙ sym (minus (8 * i) (w .tens)));
@@ -79,11 +68,3 @@ module _ {w : Width} {q : ℕ} (sound : Sound w q) (tabled : Tabled w) {e : ℤ}
       where
         low : getD (w .exponents) i 0 ≤ off w + w .twos
         low = rw (at (p .raised) (p .exponent)) (omega (arith, reached .least-x))
-
-pub tabled32 : Tabled rules.w32
-unfolding rules.w32 off allOnes significands32
-tabled32 = record { finite = lit< tt; entries = lit< tt; decimal = lit< tt; binary = lit< tt }
-
-pub tabled64 : Tabled rules.w64
-unfolding rules.w64 off allOnes significands64
-tabled64 = record { finite = lit< tt; entries = lit< tt; decimal = lit< tt; binary = lit< tt }

@@ -23,6 +23,7 @@ use Rattle.rules.specs.Power.{jRaised, index}
 use Rattle.rules.proofs.Widths.{Sound}
 use Rattle.rules.proofs.Power.{Least, j-least, index-is}
 use Rattle.diyfp.specs.Powers.{Served}
+use Rattle.diyfp.proofs.Small.{Small}
 
 -- The code's steps, from an exponent e: less j, as a fraction 78913 / 2^18 of E + N - 3, then k, then the index.
 abbrev pub raised : Width → ℤ → ℤ
@@ -62,10 +63,8 @@ least-alone a b r s l reached short some =
 
 -- What is asked of a width and m, so that every step is held.
 pub record Handy (w : Width) (m : ℕ) : Type 0 where
-  pub digits : 3 ≤ w .N
-  pub most : (allOnes w + w .S + w .N) * 78913 + m * 2 ^ 18 < 2 ^ 31
+  pub few : m ≤ 2 ^ 12
   pub whole : off w * 78913 ≤ m * 2 ^ 18
-  pub tens : w .tens < 2 ^ 20
   pub tested : T (upTo (test w m) (allOnes w + w .S + 1))
 
 -- Every step is held, and the last is the table's index.
@@ -82,7 +81,7 @@ pub record Indexed (w : Width) (e : ℤ) (E : ℕ) : Type 0 where
 pub most : {w : Width} {e : ℤ} → Served w e → (E : ℕ) → e ≡ subℕ E (off w) → E ≤ allOnes w + w .S
 most {w} s E p = omega (arith, s .most, crossed E (off w) (s .raised) (off w) (sym p ∙ s .exponent))
 
-module _ {w : Width} {q m : ℕ} (sound : Sound w q) (handy : Handy w m) {e : ℤ} (E : ℕ) (p : Is e E (off w))
+module _ {w : Width} {q m : ℕ} (sound : Sound w q) (small : Small w) (handy : Handy w m) {e : ℤ} (E : ℕ) (p : Is e E (off w))
     (finite : E ≤ allOnes w + w .S) where
   j-is : jRaised w E + quotient w m E ≡ m + (w .tens + 7)
   j-is = told (every (test w m) (allOnes w + w .S + 1) (handy .tested) E (omega arith))
@@ -93,27 +92,27 @@ module _ {w : Width} {q m : ℕ} (sound : Sound w q) (handy : Handy w m) {e : �
           omega (arith, below, least-alone _ _ (jRaised w E) r (j-least w q sound E finite) reached short (omega (arith, below)))
 
   first : Held (raised w e) (E + (w .N - 3)) (off w)
-  first = more (w .N - 3) (held p (omega (arith, handy .most, handy .whole)) .back) (omega (arith, handy .most, handy .whole))
+  first = more (w .N - 3) (held p (omega (arith, small .sum)) .back) (omega (arith, small .sum))
 
   second : Held (multiplied w e) ((E + (w .N - 3)) * 78913) (off w * 78913)
-  second = scaled 78913 (first .back) (omega (arith, handy .most, handy .whole, handy .digits))
+  second = scaled 78913 (first .back) (omega (arith, small .sum, sound .wide))
 
   third : Held (lessJ w e) (quotient w m E) m
   third =
       held
       (floored (2 ^ 18) m (lit< tt) (omega arith)
       (also ((E + (w .N - 3)) * 78913 + (m * 2 ^ 18 - off w * 78913)) (m * 2 ^ 18) (second .back) (omega (arith, handy .whole))))
-      (omega (arith, j-is, handy .most, handy .tens))
+      (omega (arith, j-is, small .sum, handy .few))
 
   fourth : Held (kOf w e) (w .tens - 1 + m) (0 + quotient w m E)
   fourth =
-      signed.apart (record { is = is-pos (w .tens - 1) (w .tens - 1) 0 (omega arith) }) (third .back) (omega (arith, j-is, handy .most, handy .tens))
+      signed.apart (record { is = is-pos (w .tens - 1) (w .tens - 1) 0 (omega arith) }) (third .back) (omega (arith, j-is, small .sum, handy .few))
 
   k-is : Is (read (kOf w e)) (jRaised w E) 8
   k-is = also (jRaised w E) 8 (fourth .back) (omega (arith, j-is, sound .tens))
 
   fifth : Held (indexOf w e) (jRaised w E / 8 + 1) 1
-  fifth = more 1 (held (floored 8 1 (lit< tt) (omega arith) k-is) (omega (arith, j-is, handy .most, handy .tens)) .back) (omega (arith, j-is, handy .most, handy .tens))
+  fifth = more 1 (held (floored 8 1 (lit< tt) (omega arith) k-is) (omega (arith, j-is, small .sum, handy .few)) .back) (omega (arith, j-is, small .sum, handy .few))
 
   pub indexed : Indexed w e E
   indexed =
@@ -124,16 +123,16 @@ module _ {w : Width} {q m : ℕ} (sound : Sound w q) (handy : Handy w m) {e : �
         subtracts = fourth .fits;
         adds = fifth .fits;
         natural = rw last tt;
-        small = rw last (omega (arith, j-is, handy .most, handy .tens));
+        small = rw last (omega (arith, j-is, small .sum, handy .few));
         is = rw last (sym (index-is w E (sound .tens)));
       }
 
 -- At each of the 279 exponents of 32 bits ..
 pub handy32 : Handy rules.w32 64
 unfolding rules.w32 off allOnes
-handy32 = record { digits = lit≤ tt; most = lit< tt; whole = lit≤ tt; tens = lit< tt; tested = tt }
+handy32 = record { few = lit≤ tt; whole = lit≤ tt; tested = tt }
 
 -- .. and at each of the 2,100 of 64 bits.
 pub handy64 : Handy rules.w64 512
 unfolding rules.w64 off allOnes
-handy64 = record { digits = lit≤ tt; most = lit< tt; whole = lit≤ tt; tens = lit< tt; tested = tt }
+handy64 = record { few = lit≤ tt; whole = lit≤ tt; tested = tt }

@@ -1,3 +1,4 @@
+pub mod Small
 pub mod Standing
 pub mod Splitting
 pub mod Shifting

@@ -20,7 +20,7 @@ record Differs (z : ℤ) : Type 0 where
   above : ℕ
   under : ℕ
   is : Is z above under
-  few : (above ≤ 4096) × (under ≤ 4096)
+  few : (above ≤ 2 ^ 13) × (under ≤ 2 ^ 13)
 
 differs : (z : ℤ) → Near z → Differs z
 differs (pos n) near = record { above = n; under = 0; is = record { is = is-pos n n 0 (omega arith) }; few = omega arith }
@@ -32,7 +32,7 @@ pub record Sum (e d : ℤ) (n : ℕ) : Type 0 where
   pub twice : SFits w32 (read (read e +ℤ read d) +ℤ pos n)
   pub whole : read (read (read e +ℤ read d) +ℤ pos n) ≡ e +ℤ d +ℤ pos n
 
-pub sums : {e d : ℤ} (n : ℕ) → n ≤ 4096 → Near e → Near d → Sum e d n
+pub sums : {e d : ℤ} (n : ℕ) → n ≤ 2 ^ 13 → Near e → Near d → Sum e d n
 sums {e} {d} n small p q = told (differs e p) (differs d q)
   where
     told : Differs e → Differs d → Sum e d n

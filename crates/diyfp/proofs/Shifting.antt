@@ -5,7 +5,7 @@ use Prim.Native.Nat.{ℕ, _+_, _-_, _*_, _/_, _%_, _^_, _≤_, _<_}
 use native.Mathlib.Nat.{add-zero, add-assoc, mul-one, mul-assoc, mod-eq-of-lt, div-eq-of-lt, div-eq-of-lt-le, mul-pos, mul-le-mul-left, mul-le-mul-right, le-antisymm}
 use native.Mathlib.Omega.{arith}
 use lib.Bits.{bitAnd, and-high}
-use lib.Dec.{lit<, lit≤}
+use lib.Dec.{lit<}
 use lib.IntN.{ℤ, pos, _-ℤ_}
 use lib.Pow.{pow-pos, pow-add, pow-mono}
 use mir.Syntax.{w32}
@@ -15,12 +15,12 @@ use Rattle.laws.proofs.Differences.{same}
 use Rattle.laws.proofs.Exponents.{lesser-exponent}
 use Rattle.laws.proofs.Powers.{two-halves}
 use Rattle.laws.proofs.Signed.{read, Is, Held, Apart, held, less}
-use Rattle.rules.specs.Width as rules
 use Rattle.rules.specs.Width.{Width, off}
 use Rattle.rules.specs.Pattern.{Pair, allOnes}
 use Rattle.rules.specs.Boundaries.{shifted}
 use Rattle.rules.proofs.Boundaries.{Shifted, shifts, no-further}
 use Rattle.diyfp.specs.Pairs.{Stands, StandsIn, Becomes, Shiftable}
+use Rattle.diyfp.proofs.Small.{Small}
 use Rattle.diyfp.proofs.Standing.{kind}
 
 -- One bit of a number, by itself.
@@ -47,12 +47,6 @@ top-unset f k fits unset =
     let bit : bitAnd f (2 ^ k) ≡ 1 * 2 ^ k = rw (one-bit, one) in
     absurd (omega (arith, bit, pow-pos k))) (which f (2 ^ k))
 
--- What is asked of a width, so that exponents are held in an i32 and can fall by N.
-pub record Narrow (w : Width) : Type 0 where
-  pub some : 0 < w .N
-  pub above : allOnes w + w .N ≤ 2 ^ 31
-  pub under : off w + w .N ≤ 2 ^ 31
-
 -- A pair on its way: m, shifted left so far, with n bits.
 pub record Going (w : Width) (n : ℕ) (m : Pair) (f : ℕ) (e : ℤ) : Type 0 where
   pub by : ℕ
@@ -71,7 +65,7 @@ alone {n} {a} {r} {s} two p q =
     further : {r s : Pair} (p : Shifted n a r) (q : Shifted n a s) → q .by ≤ p .by
     further p q = no-further (a .f) n (p .by) (q .by) two (omega (arith, p .top, p .number)) (omega (arith, q .fits, q .number))
 
-module _ {w : Width} {n : ℕ} {m : Pair} (narrow : Narrow w) (h : Shiftable w n m) where
+module _ {w : Width} {n : ℕ} {m : Pair} (small : Small w) (h : Shiftable w n m) where
   -- A shift that leaves k bits is by less than k.
   few : (by k : ℕ) → m .f * 2 ^ by < 2 ^ k → by < k
   few by k fits = lesser-exponent by k (omega (arith, mul-le-mul-right (2 ^ by) (h .some)))
@@ -86,13 +80,13 @@ module _ {w : Width} {n : ℕ} {m : Pair} (narrow : Narrow w) (h : Shiftable w n
 
     -- A shift by d, to l bits: an i32 holds the exponent's fall ..
     falls : Held (read e -ℤ pos d) (m .exp) (off w + g .by + d)
-    falls = less d (held (g .exponent) near .back) (omega (arith, near, few-left, narrow .under))
+    falls = less d (held (g .exponent) near .back) (omega (arith, near, few-left, small .sum))
       where
         few-left : g .by + d < l
         few-left = few (g .by + d) l (rw number at fits)
 
         near : Apart (m .exp) (off w + g .by)
-        near = omega (arith, h .most-exponent, narrow .above, narrow .under, few-left)
+        near = omega (arith, h .most-exponent, small .sum, few-left)
 
     -- .. and the pair is still on its way.
     goes : Going w l m (f * 2 ^ d) (read (read e -ℤ pos d))
@@ -100,10 +94,10 @@ module _ {w : Width} {n : ℕ} {m : Pair} (narrow : Narrow w) (h : Shiftable w n
 
   -- With bit N - 1 set, it is there.
   there : {f : ℕ} {e : ℤ} → Going w (w .N) m f e → n ≤ w .N → 2 ^ (w .N - 1) ≤ f → Stands w (shifted (w .N) (w .N) m) f e
-  there {f} {e} g small top = subst (λ (r : Pair). Stands w r f e) (alone two reached whole) stands
+  there {f} {e} g few-bits top = subst (λ (r : Pair). Stands w r f e) (alone two reached whole) stands
     where
       two : 2 ^ w .N ≡ 2 * 2 ^ (w .N - 1)
-      two = two-halves (w .N) (narrow .some)
+      two = two-halves (w .N) (small .some)
 
       last : Pair
       last = record { f = f; exp = m .exp - g .by }
@@ -116,7 +110,7 @@ module _ {w : Width} {n : ℕ} {m : Pair} (narrow : Narrow w) (h : Shiftable w n
 
       whole : Shifted (w .N) m (shifted (w .N) (w .N) m)
       whole =
-          shifts (w .N) (w .N) m two (omega (arith, h .fits, pow-mono {i = n} {j = w .N} small))
+          shifts (w .N) (w .N) m two (omega (arith, h .fits, pow-mono {i = n} {j = w .N} few-bits))
           (omega (arith, mul-le-mul-right (2 ^ w .N) (h .some), two)) (h .least-exponent)
 
       stands : Stands w last f e
@@ -136,7 +130,7 @@ pub record Step (w : Width) (l W : ℕ) (f₀ : ℕ) (e₀ : ℤ) (f d : ℕ) (e
   pub grows : W - f * 2 ^ d % W < W - f
   pub keeps : Kept w l f₀ e₀ (f * 2 ^ d % W) (read (read e -ℤ pos d))
 
-module _ {w : Width} {n : ℕ} {f₀ : ℕ} {e₀ : ℤ} (narrow : Narrow w) (p : StandsIn w (Shiftable w n) f₀ e₀) where
+module _ {w : Width} {n : ℕ} {f₀ : ℕ} {e₀ : ℤ} (small : Small w) (p : StandsIn w (Shiftable w n) f₀ e₀) where
   -- Where the loop begins.
   pub begins : Kept w n f₀ e₀ f₀ e₀
   begins m s =
@@ -151,9 +145,9 @@ module _ {w : Width} {n : ℕ} {f₀ : ℕ} {e₀ : ℤ} (narrow : Narrow w) (p 
       Step w l W f₀ e₀ f d e
   step {k} {f} {e} kept l W d more room word fits =
       record {
-        falls = falls narrow (p .kind) g l d room fits .fits;
-        grows = rw whole (omega (arith, above-zero narrow (p .kind) g, mul-le-mul-left f (pow-mono {i = 1} {j = d} more)));
-        keeps = λ m s. rw whole (goes narrow (kind p m s) (kept m s) l d room fits);
+        falls = falls small (p .kind) g l d room fits .fits;
+        grows = rw whole (omega (arith, above-zero small (p .kind) g, mul-le-mul-left f (pow-mono {i = 1} {j = d} more)));
+        keeps = λ m s. rw whole (goes small (kind p m s) (kept m s) l d room fits);
       }
     where
       g : Going w k (p .pair) f e
@@ -173,12 +167,4 @@ module _ {w : Width} {n : ℕ} {f₀ : ℕ} {e₀ : ℤ} (narrow : Narrow w) (p 
   -- Where bit N - 1 is set, the loop is done.
   pub ends : {f : ℕ} {e : ℤ} → Kept w (w .N) f₀ e₀ f e → n ≤ w .N → 2 ^ (w .N - 1) ≤ f →
       Becomes w (shifted (w .N) (w .N)) f₀ e₀ f e
-  ends kept small top m s = there narrow (kind p m s) (kept m s) small top
-
-pub narrow32 : Narrow rules.w32
-unfolding rules.w32 off allOnes
-narrow32 = record { some = lit< tt; above = lit≤ tt; under = lit≤ tt }
-
-pub narrow64 : Narrow rules.w64
-unfolding rules.w64 off allOnes
-narrow64 = record { some = lit< tt; above = lit≤ tt; under = lit≤ tt }
+  ends kept few-bits top m s = there small (kind p m s) (kept m s) few-bits top

@@ -37,7 +37,7 @@ pub record Bounds (w : Width) (f : ℕ) (e : ℤ) (g : ℕ) (d : ℤ) (h : ℕ) 
 
 -- An exponent whose sums do not wrap. Those of the boundaries and of the table are so.
 abbrev pub Near : ℤ → Type 0
-Near e = mag e < 4096
+Near e = mag e < 2 ^ 13
 
 -- The pair (h, x) is the product of (f, e) and (g, d).
 pub record Times (w : Width) (f : ℕ) (e : ℤ) (g : ℕ) (d : ℤ) (h : ℕ) (x : ℤ) : Type 0 where

@@ -5,12 +5,13 @@ use native.Mathlib.Omega.{arith}
 use lib.IntN.{subℕ}
 use Rattle.rules.specs.Width.{w32, off}
 use Rattle.rules.proofs.Widths.{sound32}
+use Rattle.diyfp.proofs.Small.{small32}
 use Rattle.diyfp.proofs.Indexing.{Indexed, most, indexed, handy32}
 use Rattle.diyfp.proofs.cached_index32.Statement.{statement}
 use Rattle.diyfp.proofs.cached_index32.Tie as tie
 
 steps : (c : tie.Start) (E : ℕ) → c .args .e ≡ subℕ E (off w32) → Indexed w32 (c .args .e) E
-steps c E p = indexed sound32 handy32 E (record { is = p }) (most (c .pre) E p)
+steps c E p = indexed sound32 small32 handy32 E (record { is = p }) (most (c .pre) E p)
 
 first : (c : tie.Start) → Indexed w32 (c .args .e) (c .pre .raised)
 first c = steps c (c .pre .raised) (c .pre .exponent)

@@ -5,12 +5,13 @@ use native.Mathlib.Omega.{arith}
 use lib.IntN.{subℕ}
 use Rattle.rules.specs.Width.{w64, off}
 use Rattle.rules.proofs.Widths.{sound64}
+use Rattle.diyfp.proofs.Small.{small64}
 use Rattle.diyfp.proofs.Indexing.{Indexed, most, indexed, handy64}
 use Rattle.diyfp.proofs.cached_index64.Statement.{statement}
 use Rattle.diyfp.proofs.cached_index64.Tie as tie
 
 steps : (c : tie.Start) (E : ℕ) → c .args .e ≡ subℕ E (off w64) → Indexed w64 (c .args .e) E
-steps c E p = indexed sound64 handy64 E (record { is = p }) (most (c .pre) E p)
+steps c E p = indexed sound64 small64 handy64 E (record { is = p }) (most (c .pre) E p)
 
 first : (c : tie.Start) → Indexed w64 (c .args .e) (c .pre .raised)
 first c = steps c (c .pre .raised) (c .pre .exponent)

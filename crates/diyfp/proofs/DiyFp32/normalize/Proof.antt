@@ -5,7 +5,8 @@ use native.Mathlib.Omega.{arith}
 use lib.Bits.{bitAnd}
 use lib.Dec.{lit<, lit≤}
 use Rattle.rules.specs.Width.{w32}
-use Rattle.diyfp.proofs.Shifting.{Kept, Step, begins, turn, ends, top-set, narrow32}
+use Rattle.diyfp.proofs.Small.{small32}
+use Rattle.diyfp.proofs.Shifting.{Kept, Step, begins, turn, ends, top-set}
 use Rattle.diyfp.proofs.DiyFp32.normalize.Statement.{statement}
 use Rattle.diyfp.proofs.DiyFp32.normalize.Tie as tie
 
@@ -16,12 +17,12 @@ abbrev μ-loop : tie.MeasureT-loop
 μ-loop res₀ res = 2 ^ 32 - res .f
 
 loop-holds : tie.Need-loop-holds Inv-loop μ-loop
-loop-holds c = begins narrow32 (c .pre)
+loop-holds c = begins small32 (c .pre)
 
 turns : (c : tie.At-loop Inv-loop μ-loop) → bitAnd (c .loop .res .f) (2 ^ 31) ≡ 0 →
     Step w32 32 (2 ^ 32) (c .before .args .self .f) (c .before .args .self .e) (c .loop .res .f) 1 (c .loop .res .e)
 unfolding w32
-turns c unset = turn narrow32 (c .before .pre) (c .loop .inv) (2 ^ 32) (lit< tt) (lit≤ tt) (lit≤ tt) unset
+turns c unset = turn small32 (c .before .pre) (c .loop .inv) (2 ^ 32) (lit< tt) (lit≤ tt) (lit≤ tt) unset
 
 sub-res : tie.Need-sub-res Inv-loop μ-loop
 sub-res c = turns (c .before .before .before .before .before) (c .before .before .before .if1 .taken) .falls
@@ -34,7 +35,7 @@ loop-again c = turns (c .before .before .before .before .before) (c .before .bef
 
 returns : tie.Need-returns Inv-loop μ-loop
 unfolding w32
-returns c = ends narrow32 (c .before .before .before .pre) (c .before .before .loop .inv) (lit≤ tt) (top-set _ 31 (c .if1 .left))
+returns c = ends small32 (c .before .before .before .pre) (c .before .before .loop .inv) (lit≤ tt) (top-set _ 31 (c .if1 .left))
 
 pub normalize-spec : {M : Type 1} → statement M
 normalize-spec = tie.close (tie.spec Inv-loop μ-loop loop-holds sub-res loop-less loop-again returns)

@@ -5,7 +5,8 @@ use native.Mathlib.Omega.{arith}
 use lib.Bits.{bitAnd}
 use lib.Dec.{lit<, lit≤}
 use Rattle.rules.specs.Width.{w64}
-use Rattle.diyfp.proofs.Shifting.{Kept, Step, begins, turn, step, ends, top-set, narrow64}
+use Rattle.diyfp.proofs.Small.{small64}
+use Rattle.diyfp.proofs.Shifting.{Kept, Step, begins, turn, step, ends, top-set}
 use Rattle.diyfp.proofs.DiyFp64.normalize_boundary.Statement.{statement}
 use Rattle.diyfp.proofs.DiyFp64.normalize_boundary.Tie as tie
 
@@ -16,12 +17,12 @@ abbrev μ-loop : tie.MeasureT-loop
 μ-loop res₀ res = 2 ^ 64 - res .f
 
 loop-holds : tie.Need-loop-holds Inv-loop μ-loop
-loop-holds c = begins narrow64 (c .pre)
+loop-holds c = begins small64 (c .pre)
 
 turns : (c : tie.At-loop Inv-loop μ-loop) → bitAnd (c .loop .res .f) (2 ^ 53) ≡ 0 →
     Step w64 54 (2 ^ 64) (c .before .args .self .f) (c .before .args .self .e) (c .loop .res .f) 1 (c .loop .res .e)
 unfolding w64
-turns c unset = turn narrow64 (c .before .pre) (c .loop .inv) (2 ^ 64) (lit< tt) (lit≤ tt) (lit≤ tt) unset
+turns c unset = turn small64 (c .before .pre) (c .loop .inv) (2 ^ 64) (lit< tt) (lit≤ tt) (lit≤ tt) unset
 
 sub-res : tie.Need-sub-res Inv-loop μ-loop
 sub-res c = turns (c .before .before .before .before .before) (c .before .before .before .if1 .taken) .falls
@@ -38,7 +39,7 @@ leaps : (c : tie.At-loop Inv-loop μ-loop) →
 unfolding w64
 leaps c =
     let p = c .before .pre in
-    step narrow64 p (c .loop .inv) 64 (2 ^ 64) 10 (lit< tt) (lit≤ tt) (lit≤ tt) (omega (arith, c .loop .inv (p .pair) (p .stands) .fits))
+    step small64 p (c .loop .inv) 64 (2 ^ 64) 10 (lit< tt) (lit≤ tt) (lit≤ tt) (omega (arith, c .loop .inv (p .pair) (p .stands) .fits))
 
 sub-res-2 : tie.Need-sub-res-2 Inv-loop μ-loop
 sub-res-2 c = leaps (c .before .before .before .before .before) .falls
@@ -49,7 +50,7 @@ returns c =
     let a = c .before .before .before .before .before in
     let p = a .before .pre in
     let top = top-set (a .loop .res .f) 53 (c .before .before .before .if1 .left) in
-    ends narrow64 p (leaps a .keeps) (lit≤ tt) (omega (arith, top, a .loop .inv (p .pair) (p .stands) .fits))
+    ends small64 p (leaps a .keeps) (lit≤ tt) (omega (arith, top, a .loop .inv (p .pair) (p .stands) .fits))
 
 pub normalize-boundary-spec : {M : Type 1} → statement M
 normalize-boundary-spec =

@@ -6,22 +6,22 @@ use lib.IntN.{_-ℤ_}
 use Rattle.laws.proofs.Signed.{read}
 use Rattle.rules.specs.Width.{w64}
 use Rattle.rules.proofs.Widths.{sound64}
-use Rattle.diyfp.proofs.Shifting.{narrow64}
+use Rattle.diyfp.proofs.Small.{small64}
 use Rattle.diyfp.proofs.Bounding.{falls, above-fits, above, Brought, brings, bounds}
 use Rattle.diyfp.proofs.DiyFp64.normalized_boundaries.Statement.{statement}
 use Rattle.diyfp.proofs.DiyFp64.normalized_boundaries.Tie as tie
 
 add-t7 : tie.Need-add-t7
 unfolding w64
-add-t7 c = record { fits = above-fits sound64 narrow64 (2 ^ 64) (lit≤ tt) (c .before .pre) }
+add-t7 c = record { fits = above-fits sound64 small64 (2 ^ 64) (lit≤ tt) (c .before .pre) }
 
 sub-t8 : tie.Need-sub-t8
 unfolding w64
-sub-t8 c = falls narrow64 (c .before .before .before .pre) 1 (lit≤ tt)
+sub-t8 c = falls small64 (c .before .before .before .pre) 1 (lit≤ tt)
 
 normalize-boundary-requires : tie.Need-normalize-boundary-requires
 unfolding w64
-normalize-boundary-requires c κs = above sound64 narrow64 (2 ^ 64) (lit≤ tt) (c .before .before .before .pre)
+normalize-boundary-requires c κs = above sound64 small64 (2 ^ 64) (lit≤ tt) (c .before .before .before .pre)
 
 below-requires : tie.Need-below-requires
 below-requires c κs = c .before .before .before .before .pre
@@ -34,7 +34,7 @@ lowers : (c : tie.After-below) →
 unfolding w64
 lowers c =
     let p = c .before .before .before .before .before .pre in
-    brings sound64 narrow64 (2 ^ 64) (lit≤ tt) p (c .below .ensures) (c .before .normalize-boundary .ensures) (p .pair) (p .stands)
+    brings sound64 small64 (2 ^ 64) (lit≤ tt) p (c .below .ensures) (c .before .normalize-boundary .ensures) (p .pair) (p .stands)
 
 sub-t8-2 : tie.Need-sub-t8-2
 sub-t8-2 c = lowers (c .before .before .before .before) .fits
@@ -51,7 +51,7 @@ returns : tie.Need-returns
 unfolding w64
 returns c =
     let a = c .before .before .before .before .before .before in
-    bounds sound64 narrow64 (2 ^ 64) (lit≤ tt) (a .before .before .before .before .before .pre) (a .below .ensures)
+    bounds sound64 small64 (2 ^ 64) (lit≤ tt) (a .before .before .before .before .before .pre) (a .below .ensures)
     (a .before .normalize-boundary .ensures)
 
 pub normalized-boundaries-spec : {M : Type 1} → statement M
