@@ -1,12 +1,13 @@
 -- Whole numbers as differences of naturals: `subℕ a b` is a - b. Each sum, order and equation of differences becomes one of naturals,
 -- which `omega` reads. Assumes nothing.
 use mathlib.Core.Bool.{Bool, true, false, not, cond}
-use mathlib.Core.Path.{_≡_, sym, ap}
-use Prim.Native.Nat.{ℕ, zero, suc, _+_, _-_, _≤_, _<_}
+use mathlib.Core.Path.{_≡_, sym, ap, _∙_}
+use Prim.Native.Nat.{ℕ, zero, suc, _+_, _-_, _*_, _/_, _≤_, _<_}
+use native.Mathlib.Nat.{add-zero, add-mul, add-mul-div-right, div-eq-of-lt-le, div-lt-iff-lt-mul, div-mul-le-self, lt-div-mul-add}
 use native.Mathlib.Omega.{arith}
 use lib.Dec.{T, ltb, ltb→lt, nltb→le}
-use lib.IntN.{ℤ, pos, negsuc, negℤ, subℕ, _+ℤ_}
-use lib.Signed.{mag}
+use lib.IntN.{ℤ, pos, negsuc, negℤ, subℕ, _+ℤ_, _-ℤ_, _*ℤ_}
+use lib.Signed.{mag, shrZ}
 
 cond-cases {ℓ} : {A : Type 0} (Q : A → Type ℓ) {x y : A} (t : Bool) → (T t → Q x) → (T (not t) → Q y) → Q (cond t x y)
 cond-cases Q true less more = less tt
@@ -63,3 +64,39 @@ minus a b = cases (λ z. negℤ z ≡ subℕ b a) a b (λ l. is-pos (suc (b - su
 -- A difference of numbers less than h apart lies within h.
 pub bounded : (h a b : ℕ) → a < b + h → b ≤ a + h → mag (subℕ a b) < h
 bounded h a b l r = cases (λ z. mag z < h) a b (λ m. omega arith) (λ m. omega arith)
+
+-- A natural number added to a difference, and taken from it.
+pub more : (a b n : ℕ) → subℕ a b +ℤ pos n ≡ subℕ (a + n) b
+more a b n = rw (is-pos n n 0 (add-zero n), add, add-zero)
+
+pub less : (a b n : ℕ) → subℕ a b -ℤ pos n ≡ subℕ a (b + n)
+less a b n = rw (minus-pos n 0 n (add-zero n), add, add-zero)
+
+-- A difference times a natural number.
+pub scaled : (a b n : ℕ) → subℕ a b *ℤ pos n ≡ subℕ (a * n) (b * n)
+scaled a b n =
+    cases (λ z. z *ℤ pos n ≡ subℕ (a * n) (b * n)) a b
+    (λ l. minus-pos (suc (b - suc a) * n) (a * n) (b * n) (rw (← add-mul) (ap (λ (x : ℕ). x * n) (omega arith))))
+    (λ l. is-pos ((a - b) * n) (a * n) (b * n) (rw (← add-mul) (ap (λ (x : ℕ). x * n) (omega arith))))
+
+-- A number counted down from a multiple: a lies in the step q of n, and d whole steps lie above that.
+from-above : (q d n a : ℕ) → q * n ≤ a → a < q * n + n → ((q + suc d) * n - suc a) / n ≡ d
+from-above q d n a least most = div-eq-of-lt-le n (omega arith) (omega arith)
+
+-- A shift that rounds down, of a difference from a multiple.
+pub floored : (a b n : ℕ) → 0 < n → shrZ (subℕ a (b * n)) n ≡ subℕ (a / n) b
+floored a b n some =
+    cases (λ z. shrZ z n ≡ subℕ (a / n) b) a (b * n) (λ l. is-negsuc ((b * n - suc a) / n) (a / n) b (omega (arith, below l, down l)))
+    (λ l. is-pos ((a - b * n) / n) (a / n) b (omega (arith, up l)))
+  where
+    below : a < b * n → a / n < b
+    below l = div-lt-iff-lt-mul some .1 l
+
+    down : a < b * n → (b * n - suc a) / n ≡ b - suc (a / n)
+    down l =
+        let split : b ≡ a / n + suc (b - suc (a / n)) = omega (arith, below l) in
+        ap (λ (x : ℕ). (x * n - suc a) / n) split
+        ∙ from-above (a / n) (b - suc (a / n)) n a (div-mul-le-self a n) (lt-div-mul-add some)
+
+    up : b * n ≤ a → a / n ≡ (a - b * n) / n + b
+    up l = ap (λ (x : ℕ). x / n) (omega arith) ∙ add-mul-div-right (a - b * n) b some

@@ -58,7 +58,7 @@ pub record Finite (w : Width) (m : Pair) : Type 0 where
   pub most-exponent : m .exp < allOnes w + w .N
 
 -- A number shifted until bit n - 1 is set would not fit if it were shifted further.
-no-further : (f n p q : ℕ) → 2 ^ n ≡ 2 * 2 ^ (n - 1) → 2 ^ (n - 1) ≤ f * 2 ^ p → f * 2 ^ q < 2 ^ n → q ≤ p
+pub no-further : (f n p q : ℕ) → 2 ^ n ≡ 2 * 2 ^ (n - 1) → 2 ^ (n - 1) ≤ f * 2 ^ p → f * 2 ^ q < 2 ^ n → q ≤ p
 no-further f n p q two top fits =
     le-of-suc-le-suc (lesser-exponent q (suc p) (lt-of-mul-lt-mul-left f (omega (arith, ap (λ (z : ℕ). f * z) (pow-succ' 2 p)))))
 
@@ -145,7 +145,8 @@ module _ (w : Width) (q : ℕ) (s : Sound w q) (m : Pair) (h : Finite w m) where
   pub upper-exact : upper w m .f * 2 ^ upper w m .exp ≡ (2 * m .f + 1) * 2 ^ (m .exp - 1)
   upper-exact = same-number upper-shifted
 
-  below-exponent : upper w m .exp ≤ below w m .exp
+  -- The lower boundary lies no lower than the exponent it is brought to.
+  pub below-exponent : upper w m .exp ≤ below w m .exp
   unfolding below
   below-exponent =
       let low : upper w m .exp + 2 ≤ m .exp = omega (arith, upper-shifted .exponent, shift-least, s .deep) in

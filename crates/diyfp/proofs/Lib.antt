@@ -1,0 +1,9 @@
+pub mod Small
+pub mod Standing
+pub mod Splitting
+pub mod Shifting
+pub mod Bounding
+pub mod Multiplying
+pub mod Slopes
+pub mod Indexing
+pub mod Caching

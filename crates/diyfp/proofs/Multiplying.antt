@@ -1,0 +1,121 @@
+-- The product of two pairs: the exponents' sum, and the significands' product by halves. Assumes nothing.
+use mathlib.Core.Path.{_≡_, sym, ap, subst, _∙_}
+use Prim.Native.Nat.{ℕ, suc, _+_, _-_, _*_, _/_, _%_, _^_, _≤_, _<_}
+use native.Mathlib.Nat.{le-of-lt, lt-of-le-of-lt, mod-lt, mul-le-mul-left, mul-le-mul-right}
+use native.Mathlib.Omega.{arith}
+use lib.Bits.{bitAnd, and-mask, mask-lt}
+use lib.Dec.{lit<}
+use lib.IntN.{ℤ, pos, negsuc, subℕ, _+ℤ_}
+use lib.Pow.{pow-pos, pow-add, shl-lt, shr-lt, split}
+use mir.Syntax.{w32}
+use mir.Val.{SFits}
+use Rattle.laws.proofs.Differences as differences
+use Rattle.laws.proofs.Differences.{is-pos, is-negsuc}
+use Rattle.laws.proofs.Powers.{two-halves}
+use Rattle.laws.proofs.Signed.{read, Is, Held, held, sum, more}
+use Rattle.diyfp.specs.Pairs.{Near}
+
+-- An exponent near zero, as a difference.
+record Differs (z : ℤ) : Type 0 where
+  above : ℕ
+  under : ℕ
+  is : Is z above under
+  few : (above ≤ 2 ^ 13) × (under ≤ 2 ^ 13)
+
+differs : (z : ℤ) → Near z → Differs z
+differs (pos n) near = record { above = n; under = 0; is = record { is = is-pos n n 0 (omega arith) }; few = omega arith }
+differs (negsuc n) near = record { above = 0; under = suc n; is = record { is = is-negsuc n 0 (suc n) (omega arith) }; few = omega arith }
+
+-- The sum of two exponents and n, in two steps that an i32 holds.
+pub record Sum (e d : ℤ) (n : ℕ) : Type 0 where
+  pub once : SFits w32 (read e +ℤ read d)
+  pub twice : SFits w32 (read (read e +ℤ read d) +ℤ pos n)
+  pub whole : read (read (read e +ℤ read d) +ℤ pos n) ≡ e +ℤ d +ℤ pos n
+
+pub sums : {e d : ℤ} (n : ℕ) → n ≤ 2 ^ 13 → Near e → Near d → Sum e d n
+sums {e} {d} n small p q = told (differs e p) (differs d q)
+  where
+    told : Differs e → Differs d → Sum e d n
+    told a b =
+        let first = sum (held (a .is) (omega (arith, a .few)) .back) (held (b .is) (omega (arith, b .few)) .back) (omega (arith, a .few, b .few)) in
+        let second = more n (first .back) (omega (arith, a .few, b .few)) in
+        record {
+          once = first .fits;
+          twice = second .fits;
+          whole =
+              second .back .is
+              ∙ sym (rw (a .is .is, b .is .is, differences.add) (differences.more (a .above + b .above) (a .under + b .under) n));
+        }
+
+-- The two halves of a word.
+abbrev pub high : ℕ → ℕ
+high x = x / 2 ^ 32
+
+abbrev pub low : ℕ → ℕ
+low x = bitAnd x 0xFFFF_FFFF
+
+low-is : (x : ℕ) → low x ≡ x % 2 ^ 32
+low-is x = and-mask x 32
+
+-- The column in the middle, with the half that rounds, and the upper half of the product.
+abbrev pub middle : ℕ → ℕ → ℕ
+middle f g = high (low f * low g) + low (high f * low g) + low (low f * high g) + 2 ^ 31
+
+abbrev pub upperHalf : ℕ → ℕ → ℕ
+upperHalf f g = high f * high g + high (high f * low g) + high (low f * high g) + high (middle f g)
+
+columns : (a b c d : ℕ) →
+    a * c + a * d / 2 ^ 32 + b * c / 2 ^ 32 + (b * d / 2 ^ 32 + a * d % 2 ^ 32 + b * c % 2 ^ 32 + 2 ^ 31) / 2 ^ 32
+    ≡ ((a * 2 ^ 32 + b) * (c * 2 ^ 32 + d) + 2 ^ 63) / 2 ^ 64
+columns a b c d = omega arith
+
+-- It is rounded.
+pub rounded : (f g : ℕ) → upperHalf f g ≡ (f * g + 2 ^ 63) / 2 ^ 64
+rounded f g =
+    simp low-is
+    (columns (f / 2 ^ 32) (f % 2 ^ 32) (g / 2 ^ 32) (g % 2 ^ 32) ∙ (λ i. (split f 32 i * split g 32 i + 2 ^ 63) / 2 ^ 64))
+
+-- A product of two numbers of n bits, and half a unit of its upper half, has at most 2 n bits ..
+pub product-fits : (n : ℕ) {f g : ℕ} → 0 < n → f < 2 ^ n → g < 2 ^ n → f * g + 2 ^ (n - 1) < 2 ^ (n + n)
+product-fits n {f} {g} some p q =
+    rw pow-add (omega (arith, mul-le-mul-left f (le-of-lt q), mul-le-mul-right (2 ^ n) p, two-halves n some, pow-pos (n - 1)))
+
+-- .. and the upper half n.
+pub rounded-fits : (n : ℕ) {f g : ℕ} → 0 < n → f < 2 ^ n → g < 2 ^ n → (f * g + 2 ^ (n - 1)) / 2 ^ n < 2 ^ n
+rounded-fits n some p q = shr-lt n n (product-fits n some p q)
+
+-- What the product by halves of two words adds up fits a word.
+pub record Halves (f g : ℕ) : Type 0 where
+  pub high-high : high f * high g < 2 ^ 64
+  pub low-high : low f * high g < 2 ^ 64
+  pub high-low : high f * low g < 2 ^ 64
+  pub low-low : low f * low g < 2 ^ 64
+  pub column : middle f g < 2 ^ 64
+  pub two : high f * high g + high (high f * low g) < 2 ^ 64
+  pub three : high f * high g + high (high f * low g) + high (low f * high g) < 2 ^ 64
+  pub whole : upperHalf f g < 2 ^ 64
+
+pub halves : {f g : ℕ} → f < 2 ^ 64 → g < 2 ^ 64 → Halves f g
+halves {f} {g} p q =
+    record {
+      high-high = short (shr-lt 32 32 p) (shr-lt 32 32 q);
+      low-high = short (low-short f) (shr-lt 32 32 q);
+      high-low = short (shr-lt 32 32 p) (low-short g);
+      low-low = short (low-short f) (low-short g);
+      column = omega (arith, short (low-short f) (low-short g), low-short (high f * low g), low-short (low f * high g));
+      two = sooner _ (high (low f * high g)) _ (sooner _ (high (middle f g)) _ whole);
+      three = sooner _ (high (middle f g)) _ whole;
+      whole = whole;
+    }
+  where
+    sooner : (a b n : ℕ) → a + b < n → a < n
+    sooner a b n less = omega arith
+
+    whole : upperHalf f g < 2 ^ 64
+    whole = rw rounded (rounded-fits 64 (lit< tt) p q)
+
+    short : {x y : ℕ} → x < 2 ^ 32 → y < 2 ^ 32 → x * y < 2 ^ 64
+    short {x} a b = lt-of-le-of-lt (mul-le-mul-left x (le-of-lt b)) (shl-lt 32 32 a)
+
+    low-short : (x : ℕ) → low x < 2 ^ 32
+    low-short x = mask-lt x 32

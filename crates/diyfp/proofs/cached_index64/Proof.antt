@@ -1,0 +1,44 @@
+-- `diyfp::cached_index64` meets its contract. Assumes nothing.
+use mathlib.Core.Path.{_≡_}
+use Prim.Native.Nat.{ℕ}
+use native.Mathlib.Omega.{arith}
+use lib.IntN.{subℕ}
+use Rattle.rules.specs.Width.{w64, off}
+use Rattle.rules.proofs.Widths.{sound64}
+use Rattle.diyfp.proofs.Small.{small64}
+use Rattle.diyfp.proofs.Indexing.{Indexed, most, indexed, handy64}
+use Rattle.diyfp.proofs.cached_index64.Statement.{statement}
+use Rattle.diyfp.proofs.cached_index64.Tie as tie
+
+steps : (c : tie.Start) (E : ℕ) → c .args .e ≡ subℕ E (off w64) → Indexed w64 (c .args .e) E
+steps c E p = indexed sound64 small64 handy64 E (record { is = p }) (most (c .pre) E p)
+
+first : (c : tie.Start) → Indexed w64 (c .args .e) (c .pre .raised)
+first c = steps c (c .pre .raised) (c .pre .exponent)
+
+add-k : tie.Need-add-k
+unfolding w64
+add-k c = first c .raises
+
+mul-k : tie.Need-mul-k
+unfolding w64
+mul-k c = first c .multiplies
+
+sub-k : tie.Need-sub-k
+unfolding w64
+sub-k c = first c .subtracts
+
+add-result : tie.Need-add-result
+unfolding w64
+add-result c = first c .adds
+
+cast-result : tie.Need-cast-result
+unfolding w64
+cast-result c = (first c .natural, omega (arith, first c .small))
+
+returns : tie.Need-returns
+unfolding w64
+returns c E p = steps c E p .is
+
+pub cached-index64-spec : {M : Type 1} → statement M
+cached-index64-spec = tie.close (tie.spec add-k mul-k sub-k add-result cast-result returns)

@@ -1,0 +1,305 @@
+// Pairs of a significand and a binary exponent, f * 2^e, in 32 and in 64 bits: from a pattern to its boundaries and their scale.
+mod tables;
+
+ghost use mathlib.Core.Path.{_≡_};
+ghost use Prim.Native.Nat.{ℕ};
+ghost use lib.IntN.{subℕ};
+ghost use Rattle.rules.specs.Width.{w32, w64, off};
+ghost use Rattle.rules.specs.Pattern.{magnitude};
+ghost use Rattle.rules.specs.Boundaries.{shifted, below};
+ghost use Rattle.rules.specs.Power.{index};
+ghost use Rattle.rules.proofs.Boundaries.{Finite};
+ghost use Rattle.diyfp.specs.Pairs.{Stands, StandsIn, Becomes, Shiftable, Bounds, Near, Times};
+ghost use Rattle.diyfp.specs.Powers.{Served, Cached};
+
+// The number f * 2^e, with 32 bits for f.
+pub struct DiyFp32 {
+    pub f: u32,
+    pub e: i32,
+}
+
+// The lower and the upper boundary of a magnitude, at one exponent.
+pub struct Boundaries32 {
+    pub minus: DiyFp32,
+    pub plus: DiyFp32,
+}
+
+// A power of ten, 10^-k.
+pub struct CachedPower32 {
+    pub power: DiyFp32,
+    pub k: i32,
+}
+
+const HIDDEN_BIT_32: u32 = 0x0080_0000;
+
+impl DiyFp32 {
+    // The magnitude of a finite pattern.
+    pub fn from_bits(bits: u32) -> DiyFp32
+        ensures { λ r. ⌜ Stands w32 (magnitude w32 bits) (r .f) (r .e) ⌝ }
+    {
+        let biased_e = ((bits & 0x7F80_0000) >> 23) as i32;
+        let significand = bits & 0x007F_FFFF;
+        if biased_e != 0 {
+            DiyFp32 {
+                f: significand + HIDDEN_BIT_32,
+                e: biased_e - 0x7F - 23,
+            }
+        } else {
+            DiyFp32 {
+                f: significand,
+                e: 1 - 0x7F - 23,
+            }
+        }
+    }
+
+    // Shifted left until bit 31 is set.
+    pub fn normalize(self) -> DiyFp32
+        requires { ⌜ StandsIn w32 (Shiftable w32 32) (self .f) (self .e) ⌝ }
+        ensures { λ r. ⌜ Becomes w32 (shifted 32 32) (self .f) (self .e) (r .f) (r .e) ⌝ }
+    {
+        let mut res = self;
+        while (res.f & (1 << 31)) == 0 {
+            res.f <<= 1;
+            res.e -= 1;
+        }
+        res
+    }
+
+    // The same for a significand of at most 25 bits: to the bit above the hidden bit one by one, and the last 7 in one step.
+    fn normalize_boundary(self) -> DiyFp32
+        requires { ⌜ StandsIn w32 (Shiftable w32 25) (self .f) (self .e) ⌝ }
+        ensures { λ r. ⌜ Becomes w32 (shifted 32 32) (self .f) (self .e) (r .f) (r .e) ⌝ }
+    {
+        let mut res = self;
+        while (res.f & (HIDDEN_BIT_32 << 1)) == 0 {
+            res.f <<= 1;
+            res.e -= 1;
+        }
+        res.f <<= 7;
+        res.e -= 7;
+        res
+    }
+
+    // The lower boundary where it lies, before it is brought to the upper's exponent.
+    fn below(self) -> DiyFp32
+        requires { ⌜ StandsIn w32 (Finite w32) (self .f) (self .e) ⌝ }
+        ensures { λ r. ⌜ Becomes w32 (below w32) (self .f) (self .e) (r .f) (r .e) ⌝ }
+    {
+        if self.f == HIDDEN_BIT_32 {
+            return DiyFp32 {
+                f: (self.f << 2) - 1,
+                e: self.e - 2,
+            };
+        }
+        DiyFp32 {
+            f: (self.f << 1) - 1,
+            e: self.e - 1,
+        }
+    }
+
+    // The two boundaries of a finite magnitude other than zero.
+    pub fn normalized_boundaries(self) -> Boundaries32
+        requires { ⌜ StandsIn w32 (Finite w32) (self .f) (self .e) ⌝ }
+        ensures { λ r. ⌜ Bounds w32 (self .f) (self .e) (r .minus .f) (r .minus .e) (r .plus .f) (r .plus .e) ⌝ }
+    {
+        let above = DiyFp32 {
+            f: (self.f << 1) + 1,
+            e: self.e - 1,
+        };
+        let plus = above.normalize_boundary();
+        let below = self.below();
+        let minus = DiyFp32 {
+            f: below.f << (below.e - plus.e),
+            e: plus.e,
+        };
+        Boundaries32 { minus, plus }
+    }
+
+    // The product: exponents added, plus 32, and the upper half of the significands' product, rounded.
+    pub fn times(self, rhs: DiyFp32) -> DiyFp32
+        requires { ⌜ Near (self .e) × Near (rhs .e) ⌝ }
+        ensures { λ r. ⌜ Times w32 (self .f) (self .e) (rhs .f) (rhs .e) (r .f) (r .e) ⌝ }
+    {
+        let tmp = (self.f as u64) * (rhs.f as u64) + (1 << 31);
+        DiyFp32 {
+            f: (tmp >> 32) as u32,
+            e: self.e + rhs.e + 32,
+        }
+    }
+}
+
+// The table's index for an upper boundary's exponent e: one more than k / 8 rounded down, where k = j + 35 and j is the
+// smallest whole number with 10^j >= 2^(-29 - e).
+fn cached_index32(e: i32) -> usize
+    requires { ⌜ Served w32 e ⌝ }
+    ensures { λ r. ⌜ ((E : ℕ) → e ≡ subℕ E (off w32) → r ≡ index w32 E) ⌝ }
+{
+    let k = 35 - (((e + 29) * 78913) >> 18);
+    ((k >> 3) + 1) as usize
+}
+
+// The power of ten that scales an upper boundary of exponent e.
+pub fn get_cached_power32(e: i32) -> CachedPower32
+    requires { ⌜ Served w32 e ⌝ }
+    ensures { λ r. ⌜ ((E : ℕ) → e ≡ subℕ E (off w32) → Cached w32 E (r .power .f) (r .power .e) (r .k)) ⌝ }
+{
+    let index = cached_index32(e);
+    let power = DiyFp32 {
+        f: tables::significand32(index),
+        e: tables::exponent32(index),
+    };
+    CachedPower32 {
+        power,
+        k: 36 - (index << 3) as i32,
+    }
+}
+
+// The number f * 2^e, with 64 bits for f.
+pub struct DiyFp64 {
+    pub f: u64,
+    pub e: i32,
+}
+
+// The lower and the upper boundary of a magnitude, at one exponent.
+pub struct Boundaries64 {
+    pub minus: DiyFp64,
+    pub plus: DiyFp64,
+}
+
+// A power of ten, 10^-k.
+pub struct CachedPower64 {
+    pub power: DiyFp64,
+    pub k: i32,
+}
+
+const HIDDEN_BIT_64: u64 = 0x0010_0000_0000_0000;
+
+impl DiyFp64 {
+    // The magnitude of a finite pattern.
+    pub fn from_bits(bits: u64) -> DiyFp64
+        ensures { λ r. ⌜ Stands w64 (magnitude w64 bits) (r .f) (r .e) ⌝ }
+    {
+        let biased_e = ((bits & 0x7FF0_0000_0000_0000) >> 52) as i32;
+        let significand = bits & 0x000F_FFFF_FFFF_FFFF;
+        if biased_e != 0 {
+            DiyFp64 {
+                f: significand + HIDDEN_BIT_64,
+                e: biased_e - 0x3FF - 52,
+            }
+        } else {
+            DiyFp64 {
+                f: significand,
+                e: 1 - 0x3FF - 52,
+            }
+        }
+    }
+
+    // Shifted left until bit 63 is set.
+    pub fn normalize(self) -> DiyFp64
+        requires { ⌜ StandsIn w64 (Shiftable w64 64) (self .f) (self .e) ⌝ }
+        ensures { λ r. ⌜ Becomes w64 (shifted 64 64) (self .f) (self .e) (r .f) (r .e) ⌝ }
+    {
+        let mut res = self;
+        while (res.f & (1 << 63)) == 0 {
+            res.f <<= 1;
+            res.e -= 1;
+        }
+        res
+    }
+
+    // The same for a significand of at most 54 bits: to the bit above the hidden bit one by one, and the last 10 in one step.
+    fn normalize_boundary(self) -> DiyFp64
+        requires { ⌜ StandsIn w64 (Shiftable w64 54) (self .f) (self .e) ⌝ }
+        ensures { λ r. ⌜ Becomes w64 (shifted 64 64) (self .f) (self .e) (r .f) (r .e) ⌝ }
+    {
+        let mut res = self;
+        while (res.f & (HIDDEN_BIT_64 << 1)) == 0 {
+            res.f <<= 1;
+            res.e -= 1;
+        }
+        res.f <<= 10;
+        res.e -= 10;
+        res
+    }
+
+    // The lower boundary where it lies, before it is brought to the upper's exponent.
+    fn below(self) -> DiyFp64
+        requires { ⌜ StandsIn w64 (Finite w64) (self .f) (self .e) ⌝ }
+        ensures { λ r. ⌜ Becomes w64 (below w64) (self .f) (self .e) (r .f) (r .e) ⌝ }
+    {
+        if self.f == HIDDEN_BIT_64 {
+            return DiyFp64 {
+                f: (self.f << 2) - 1,
+                e: self.e - 2,
+            };
+        }
+        DiyFp64 {
+            f: (self.f << 1) - 1,
+            e: self.e - 1,
+        }
+    }
+
+    // The two boundaries of a finite magnitude other than zero.
+    pub fn normalized_boundaries(self) -> Boundaries64
+        requires { ⌜ StandsIn w64 (Finite w64) (self .f) (self .e) ⌝ }
+        ensures { λ r. ⌜ Bounds w64 (self .f) (self .e) (r .minus .f) (r .minus .e) (r .plus .f) (r .plus .e) ⌝ }
+    {
+        let above = DiyFp64 {
+            f: (self.f << 1) + 1,
+            e: self.e - 1,
+        };
+        let plus = above.normalize_boundary();
+        let below = self.below();
+        let minus = DiyFp64 {
+            f: below.f << (below.e - plus.e),
+            e: plus.e,
+        };
+        Boundaries64 { minus, plus }
+    }
+
+    // The product: exponents added, plus 64, and the upper half of the significands' product, rounded.
+    pub fn times(self, rhs: DiyFp64) -> DiyFp64
+        requires { ⌜ Near (self .e) × Near (rhs .e) ⌝ }
+        ensures { λ r. ⌜ Times w64 (self .f) (self .e) (rhs .f) (rhs .e) (r .f) (r .e) ⌝ }
+    {
+        let a = self.f >> 32;
+        let b = self.f & 0xFFFF_FFFF;
+        let c = rhs.f >> 32;
+        let d = rhs.f & 0xFFFF_FFFF;
+        let ac = a * c;
+        let bc = b * c;
+        let ad = a * d;
+        let bd = b * d;
+        let tmp = (bd >> 32) + (ad & 0xFFFF_FFFF) + (bc & 0xFFFF_FFFF) + (1 << 31);
+        DiyFp64 {
+            f: ac + (ad >> 32) + (bc >> 32) + (tmp >> 32),
+            e: self.e + rhs.e + 64,
+        }
+    }
+}
+
+// The table's index for an upper boundary's exponent e: one more than k / 8 rounded down, where k = j + 347 and j is the
+// smallest whole number with 10^j >= 2^(-61 - e).
+fn cached_index64(e: i32) -> usize
+    requires { ⌜ Served w64 e ⌝ }
+    ensures { λ r. ⌜ ((E : ℕ) → e ≡ subℕ E (off w64) → r ≡ index w64 E) ⌝ }
+{
+    let k = 347 - (((e + 61) * 78913) >> 18);
+    ((k >> 3) + 1) as usize
+}
+
+// The power of ten that scales an upper boundary of exponent e.
+pub fn get_cached_power64(e: i32) -> CachedPower64
+    requires { ⌜ Served w64 e ⌝ }
+    ensures { λ r. ⌜ ((E : ℕ) → e ≡ subℕ E (off w64) → Cached w64 E (r .power .f) (r .power .e) (r .k)) ⌝ }
+{
+    let index = cached_index64(e);
+    let power = DiyFp64 {
+        f: tables::significand64(index),
+        e: tables::exponent64(index),
+    };
+    CachedPower64 {
+        power,
+        k: 348 - (index << 3) as i32,
+    }
+}
