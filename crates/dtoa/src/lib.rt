@@ -1,0 +1,2 @@
+// Floats as text: the digits, and how they are laid out.
+mod digits;
