@@ -2,3 +2,4 @@ pub mod Branches
 pub mod Tests
 pub mod Powers
 pub mod Differences
+pub mod Puts
