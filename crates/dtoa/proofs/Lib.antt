@@ -2,3 +2,4 @@ pub mod Counted
 pub mod Numerals
 pub mod Signs
 pub mod Falls
+pub mod Above

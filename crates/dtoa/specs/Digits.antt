@@ -1,7 +1,11 @@
--- What digit generation counts, and what it leaves in a buffer. Assumes nothing.
-use Prim.Native.Nat.{ℕ, min}
-use Rattle.rules.specs.Numbers.{count}
-use Rattle.rules.specs.Digits.{Place}
+-- What digit generation counts, asks and leaves in a buffer. Assumes nothing.
+use mathlib.Core.Path.{_≡_}
+use mathlib.Core.List.{List}
+use Prim.Native.Nat.{ℕ, min, suc, _+_, _-_, _*_, _/_, _%_, _^_, _≤_, _<_}
+use Rattle.laws.specs.Puts.{Puts}
+use Rattle.rules.specs.Numbers.{count, numeral}
+use Rattle.rules.specs.Scaled.{Scaled}
+use Rattle.rules.specs.Digits.{Place, places, first}
 
 -- How many decimal digits n has, but no more than 9.
 abbrev pub countToNine : ℕ → ℕ
@@ -11,3 +15,31 @@ countToNine n = min (count n) 9
 abbrev pub measure : ℕ → ℕ → ℕ → Place
 measure unit room distance =
     record { up = 0; down = 0; unit = unit; digits = 0; rest = 0; room = room; distance = distance }
+
+-- A number without its last k digits, and those.
+pub record SplitAt (p k front back : ℕ) : Type 0 where
+  pub front-is : front ≡ p / 10 ^ k
+  pub back-is : back ≡ p % 10 ^ k
+
+-- The scaled numbers with H = h, W = w, D = delta and this x.
+abbrev pub given : ℕ → ℕ → ℕ → ℕ → Scaled
+given h w delta x = record { H = h; L = h - delta; W = w; x = x; at = 0 }
+
+-- What the places at and above zero ask of the numbers, and of the room in the buffer.
+pub record ReadyAbove (h delta x room : ℕ) : Type 0 where
+  pub less : delta < h
+  pub short : h < 10 ^ 9 * 2 ^ x
+  pub shift : x ≤ 60
+  pub nine : 9 ≤ room
+
+-- The places from the highest down to k were tried and those before k failed: `len` digits stand from the buffer's start on.
+pub record TriedAbove (h delta x k len rest : ℕ) (old new : List ℕ) : Type 0 where
+  pub sum : len + k ≡ count (h / 2 ^ x)
+  pub rest-is : rest ≡ h % (10 ^ k * 2 ^ x)
+  pub text : Puts (numeral len (h / (10 ^ k * 2 ^ x))) old 0 new len
+  pub onward : (w : ℕ) → first (given h w delta x) ≡ places (given h w delta x) (suc k)
+
+-- The last place tried at or above zero: it passes, or it is place 0 and fails too.
+pub record EndedAbove (h delta x k len rest : ℕ) (old new : List ℕ) : Type 0 where
+  pub tried : TriedAbove h delta x k len rest old new
+  pub failed : delta < rest → k ≡ 0

@@ -1,8 +1,10 @@
 // The decimal digits of a scaled magnitude, into a lent buffer.
 ghost use mathlib.Core.Path.{_≡_};
-ghost use Prim.Native.Nat.{_+_, _*_, _≤_, _<_};
+ghost use Prim.Native.Nat.{_+_, _*_, _/_, _%_, _^_, _≤_, _<_};
+ghost use lib.ListN.{length};
 ghost use Rattle.rules.specs.Digits.{falls, closer as isCloser};
-ghost use Rattle.dtoa.specs.Digits.{countToNine, measure};
+ghost use Rattle.dtoa.specs.Digits.{countToNine, measure, SplitAt, ReadyAbove, EndedAbove};
+use crate::put;
 
 // How many decimal digits n has; from 100,000,000 up it says 9.
 pub fn count_decimal_digit32(n: u32) -> usize
@@ -60,4 +62,117 @@ pub fn grisu_round(unit: u64, room: u64, distance: u64, rest: u64) -> u8
         fallen += 1;
     }
     fallen
+}
+
+// 10^kappa.
+fn pow10(kappa: usize) -> u64
+    requires { ⌜ kappa < 9 ⌝ }
+    ensures { λ r. ⌜ r ≡ 10 ^ kappa ⌝ }
+{
+    match kappa {
+        0 => 1,
+        1 => 10,
+        2 => 100,
+        3 => 1000,
+        4 => 10000,
+        5 => 100000,
+        6 => 1000000,
+        7 => 10000000,
+        _ => 100000000,
+    }
+}
+
+// A number without its last digits, and those.
+struct Split {
+    front: u32,
+    back: u32,
+}
+
+// A number split before its last kappa digits.
+fn split_digits(p: u32, kappa: usize) -> Split
+    requires { ⌜ kappa < 9 ⌝ }
+    ensures { λ r. ⌜ SplitAt p kappa (r .front) (r .back) ⌝ }
+{
+    match kappa {
+        0 => Split { front: p, back: 0 },
+        1 => Split {
+            front: p / 10,
+            back: p % 10,
+        },
+        2 => Split {
+            front: p / 100,
+            back: p % 100,
+        },
+        3 => Split {
+            front: p / 1000,
+            back: p % 1000,
+        },
+        4 => Split {
+            front: p / 10000,
+            back: p % 10000,
+        },
+        5 => Split {
+            front: p / 100000,
+            back: p % 100000,
+        },
+        6 => Split {
+            front: p / 1000000,
+            back: p % 1000000,
+        },
+        7 => Split {
+            front: p / 10000000,
+            back: p % 10000000,
+        },
+        _ => Split {
+            front: p / 100000000,
+            back: p % 100000000,
+        },
+    }
+}
+
+// The bits of v below bit x.
+fn low_bits(v: u64, x: u32) -> u64
+    requires { ⌜ x ≤ 60 ⌝ }
+    ensures { λ r. ⌜ r ≡ v % 2 ^ x ⌝ }
+{
+    v & ((1 << x) - 1)
+}
+
+// v times 2^x.
+fn shifted(v: u64, x: u32) -> u64
+    requires { ⌜ x ≤ 60 ⌝ }
+    requires { ⌜ v * 2 ^ x < 2 ^ 64 ⌝ }
+    ensures { λ r. ⌜ r ≡ v * 2 ^ x ⌝ }
+{
+    v << x
+}
+
+// A place at or above zero: how many digits stand, and what is left.
+struct Above {
+    len: usize,
+    kappa: usize,
+    rest: u64,
+}
+
+// Writes the digits at and above zero, down to the first place that passes.
+fn places_above(h: u64, delta: u64, x: u32, buf: &mut [u8]) -> Above
+    requires { ⌜ ReadyAbove h delta x (length (now buf)) ⌝ }
+    ensures { λ r. ⌜ EndedAbove h delta x (r .kappa) (r .len) (r .rest) (now (buf .entry)) (now (buf .exit)) ⌝ }
+{
+    let mut p1 = (h >> x) as u32;
+    let p2 = low_bits(h, x);
+    let mut kappa = count_decimal_digit32(p1);
+    let mut len: usize = 0;
+    let mut rest = h;
+    while 0 < kappa {
+        kappa -= 1;
+        let s = split_digits(p1, kappa);
+        len = put::digit(buf, len, s.front);
+        p1 = s.back;
+        rest = shifted(p1 as u64, x) + p2;
+        if rest <= delta {
+            return Above { len, kappa, rest };
+        }
+    }
+    Above { len, kappa, rest }
 }

@@ -18,12 +18,12 @@ fn write_small(n: u32, buf: &mut [u8]) -> usize
         return put::digit(buf, 0, n);
     }
     if n < 100 {
-        put::digit(buf, 0, n / 10);
-        return put::digit(buf, 1, n % 10);
+        let at = put::digit(buf, 0, n / 10);
+        return put::digit(buf, at, n % 10);
     }
-    put::digit(buf, 0, n / 100);
-    put::digit(buf, 1, n / 10 % 10);
-    put::digit(buf, 2, n % 10)
+    let tens = put::digit(buf, 0, n / 100);
+    let ones = put::digit(buf, tens, n / 10 % 10);
+    put::digit(buf, ones, n % 10)
 }
 
 // How far k is from zero.

@@ -3,3 +3,4 @@ pub mod Tests
 pub mod Powers
 pub mod Differences
 pub mod Puts
+pub mod Arms
