@@ -3,3 +3,4 @@ pub mod Numerals
 pub mod Signs
 pub mod Falls
 pub mod Above
+pub mod Under

@@ -5,7 +5,7 @@ use Prim.Native.Nat.{ℕ, min, suc, _+_, _-_, _*_, _/_, _%_, _^_, _≤_, _<_}
 use Rattle.laws.specs.Puts.{Puts}
 use Rattle.rules.specs.Numbers.{count, numeral}
 use Rattle.rules.specs.Scaled.{Scaled}
-use Rattle.rules.specs.Digits.{Place, places, first}
+use Rattle.rules.specs.Digits.{Place, places, placesUnder, under, first}
 
 -- How many decimal digits n has, but no more than 9.
 abbrev pub countToNine : ℕ → ℕ
@@ -43,3 +43,26 @@ pub record TriedAbove (h delta x k len rest : ℕ) (old new : List ℕ) : Type 0
 pub record EndedAbove (h delta x k len rest : ℕ) (old new : List ℕ) : Type 0 where
   pub tried : TriedAbove h delta x k len rest old new
   pub failed : delta < rest → k ≡ 0
+
+-- What the places below zero ask of the numbers, of the digits that stand, and of the room in the buffer.
+pub record ReadyUnder (h delta x len room : ℕ) : Type 0 where
+  pub some : 0 < delta
+  pub fails : delta ≤ h % 2 ^ x
+  pub whole : 2 ^ x ≤ h
+  pub shift : x ≤ 60
+  pub stand : len ≡ count (h / 2 ^ x)
+  pub nine : 9 ≤ room
+  pub few : h < 10 ^ (room - 1) * delta
+
+-- The places below zero were tried down to -n and those before it failed: n more digits stand behind the first `len`.
+pub record TriedUnder (h delta x len n next rest room : ℕ) (old new : List ℕ) : Type 0 where
+  pub near : n ≤ x
+  pub rest-is : rest ≡ h * 10 ^ n % 2 ^ x
+  pub room-is : room ≡ delta * 10 ^ n
+  pub text : Puts (numeral n (h * 10 ^ n / 2 ^ x)) old len new next
+  pub onward : (w : ℕ) → placesUnder (given h w delta x) (suc x) 0 ≡ placesUnder (given h w delta x) (suc x - n) n
+
+-- The first place below zero that passes.
+pub record EndedUnder (h delta x len n next rest room : ℕ) (old new : List ℕ) : Type 0 where
+  pub tried : TriedUnder h delta x len n next rest room old new
+  pub passes : rest < room

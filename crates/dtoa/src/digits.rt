@@ -3,7 +3,7 @@ ghost use mathlib.Core.Path.{_≡_};
 ghost use Prim.Native.Nat.{_+_, _*_, _/_, _%_, _^_, _≤_, _<_};
 ghost use lib.ListN.{length};
 ghost use Rattle.rules.specs.Digits.{falls, closer as isCloser};
-ghost use Rattle.dtoa.specs.Digits.{countToNine, measure, SplitAt, ReadyAbove, EndedAbove};
+ghost use Rattle.dtoa.specs.Digits.{countToNine, measure, SplitAt, ReadyAbove, EndedAbove, ReadyUnder, EndedUnder};
 use crate::put;
 
 // How many decimal digits n has; from 100,000,000 up it says 9.
@@ -175,4 +175,36 @@ fn places_above(h: u64, delta: u64, x: u32, buf: &mut [u8]) -> Above
         }
     }
     Above { len, kappa, rest }
+}
+
+// A place below zero: how many digits stand, how far below it is, and what is left.
+struct Under {
+    len: usize,
+    down: usize,
+    rest: u64,
+    room: u64,
+}
+
+// Writes the digits below zero behind the others, down to the first place that passes.
+fn places_under(h: u64, delta: u64, x: u32, len: usize, buf: &mut [u8]) -> Under
+    requires { ⌜ ReadyUnder h delta x len (length (now buf)) ⌝ }
+    ensures { λ r. ⌜ EndedUnder h delta x len (r .down) (r .len) (r .rest) (r .room) (now (buf .entry)) (now (buf .exit)) ⌝ }
+{
+    let mut rest = low_bits(h, x);
+    let mut room = delta;
+    let mut at = len;
+    let mut down: usize = 0;
+    while room <= rest {
+        let tens = rest * 10;
+        at = put::digit(buf, at, (tens >> x) as u32);
+        rest = low_bits(tens, x);
+        room = room * 10;
+        down += 1;
+    }
+    Under {
+        len: at,
+        down,
+        rest,
+        room,
+    }
 }
