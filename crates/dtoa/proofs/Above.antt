@@ -46,7 +46,7 @@ next-left v k =
     rw (pow-succ' 10 k, mod-mul v {m = 10} {c = 10 ^ k} (zero-lt-suc 9) (ten-pos k)) (digits-mod (v / 10 ^ k % 10) (mod-lt v (ten-pos k)))
 
 -- The digits at place k are those of h / 2^x without the last k.
-digits-whole : (h x k : ℕ) → h / (10 ^ k * 2 ^ x) ≡ h / 2 ^ x / 10 ^ k
+pub digits-whole : (h x k : ℕ) → h / (10 ^ k * 2 ^ x) ≡ h / 2 ^ x / 10 ^ k
 digits-whole h x k = rw (mul-comm (10 ^ k) (2 ^ x)) (sym (div-div-eq-div-mul h (2 ^ x) (10 ^ k)))
 
 -- The digits at a place are those at the next without the last.

@@ -32,7 +32,7 @@ pub all-counted : (n : ℕ) → n < 10 ^ 9 → countToNine n ≡ count n
 all-counted n less = omega (arith, count-least n 8 less)
 
 -- A number above zero reaches the power of ten below its count.
-count-below : (v : ℕ) → 0 < v → 10 ^ (count v - 1) ≤ v
+pub count-below : (v : ℕ) → 0 < v → 10 ^ (count v - 1) ≤ v
 count-below v some = ⊎-elim (λ less. absurd (too-few (count v - 1) (count-pos v) refl less)) (λ reaches. reaches) (which v (10 ^ (count v - 1)))
   where
     too-few : (j : ℕ) → 0 < count v → j ≡ count v - 1 → v < 10 ^ j → ⊥

@@ -4,3 +4,5 @@ pub mod Signs
 pub mod Falls
 pub mod Above
 pub mod Under
+pub mod First
+pub mod Given

@@ -2,16 +2,18 @@
 use mathlib.Core.Bool.{true, false}
 use mathlib.Core.Path.{_≡_, refl, ap, subst}
 use mathlib.Core.List.{_∷_}
-use Prim.Native.Nat.{ℕ, suc, _^_, _<_}
+use Prim.Native.Nat.{ℕ, zero, suc, _^_, _<_}
 use native.Mathlib.Nat.{not-suc-le-zero, zero-add}
+use native.Mathlib.Omega.{arith}
 use lib.Dec.{T}
-use lib.IntN.{ℤ, pos, negsuc, natAbs, _-ℤ_}
+use lib.IntN.{ℤ, pos, negsuc, natAbs, subℕ, _-ℤ_}
 use lib.Signed.{ltZ, nonNeg}
-use mir.Facts.{toZ-ofZ}
+use mir.Facts.{toZ-ofZ, toZ-pos}
 use mir.Syntax.{w32}
-use mir.Val.{toZ, ofZ}
+use mir.Val.{SFits, toZ, ofZ}
 use borrow.Author.Tests.{ltb-true}
-use Rattle.rules.specs.Bytes.{minus}
+use Rattle.laws.proofs.Differences.{bounded}
+use Rattle.rules.specs.Bytes as byte
 use Rattle.rules.specs.Numbers.{plain}
 use Rattle.rules.specs.Layout.{exponent}
 
@@ -30,7 +32,7 @@ not-below (pos n) e = tt
 not-below (negsuc n) e = subst T e tt
 
 -- The texts of an exponent below zero, and of another.
-pub exponent-below : (k : ℤ) → ltZ k (pos 0) ≡ true → exponent k ≡ minus ∷ plain (natAbs k)
+pub exponent-below : (k : ℤ) → ltZ k (pos 0) ≡ true → exponent k ≡ byte.minus ∷ plain (natAbs k)
 unfolding exponent
 exponent-below (pos n) e = absurd (not-suc-le-zero (ltb-true n 0 e))
 exponent-below (negsuc n) e = refl
@@ -39,3 +41,14 @@ pub exponent-upward : (k : ℤ) → ltZ k (pos 0) ≡ false → exponent k ≡ p
 unfolding exponent
 exponent-upward (pos n) e = refl
 exponent-upward (negsuc n) e = absurd (subst T e tt)
+
+-- Minus n, as an i32 computes and holds it.
+pub minus : (n : ℕ) → n < 2 ^ 31 → pos 0 -ℤ toZ w32 n ≡ subℕ 0 n
+minus n h = rw (toZ-pos w32 h) (below n)
+  where
+    below : (m : ℕ) → pos 0 -ℤ pos m ≡ subℕ 0 m
+    below zero = refl
+    below (suc m) = refl
+
+pub minus-fits : (n : ℕ) → n < 2 ^ 31 → SFits w32 (subℕ 0 n)
+minus-fits n h = record { sfits = bounded (2 ^ 31) 0 n (omega arith) (omega arith) }

@@ -47,6 +47,15 @@ next-digits a m pos = rw (ten-times a m) (mul-add-div-right pos (a / m * 10) (a 
 next-digit-less : (a m : ℕ) → 0 < m → a % m * 10 / m < 10
 next-digit-less a m pos = div-lt-iff-lt-mul pos .1 (omega (arith, mod-lt a pos))
 
+-- The digits at place -n without the last n are those at and above zero.
+pub front-under : (h x n : ℕ) → h * 10 ^ n / 2 ^ x / 10 ^ n ≡ h / 2 ^ x
+front-under h x n = rw (div-div-eq-div-mul (h * 10 ^ n) (2 ^ x) (10 ^ n)) (mul-div-mul-right h (2 ^ x) (ten-pos n))
+
+-- They are n more.
+pub count-under : (h x n : ℕ) → 0 < h / 2 ^ x → count (h * 10 ^ n / 2 ^ x) ≡ count (h / 2 ^ x) + n
+count-under h x n some =
+    count-front (h * 10 ^ n / 2 ^ x) n (rw (front-under h x n) some) ∙ ap (λ (v : ℕ). count v + n) (front-under h x n)
+
 -- ---- the turns of the loop
 
 module _ {h delta x len room : ℕ} (ready : ReadyUnder h delta x len room) where
@@ -74,16 +83,13 @@ module _ {h delta x len room : ℕ} (ready : ReadyUnder h delta x len room) wher
     -- After it there is room for one more digit.
     space : len + n < room
     space =
-        let digits = h * 10 ^ n / 2 ^ x in
-        let front : digits / 10 ^ n ≡ h / 2 ^ x =
-        rw (div-div-eq-div-mul (h * 10 ^ n) (2 ^ x) (10 ^ n)) (mul-div-mul-right h (2 ^ x) (ten-pos n)) in
-        let some : 0 < digits / 10 ^ n = rw front (le-div-iff-mul-le (pow-pos x) .1 (omega (arith, ready .whole))) in
+        let some : 0 < h / 2 ^ x = le-div-iff-mul-le (pow-pos x) .1 (omega (arith, ready .whole)) in
         let last : suc (room - 2) ≡ room - 1 = omega (arith, ready .nine) in
-        let few : digits < 10 ^ suc (room - 2) =
+        let few : h * 10 ^ n / 2 ^ x < 10 ^ suc (room - 2) =
         rw last
         (div-lt-iff-lt-mul (pow-pos x) .1
         (omega (arith, mul-lt-mul-of-pos-right (ready .few) (ten-pos n), mul-le-mul-left (10 ^ (room - 1)) (le-of-lt unit-more)))) in
-        omega (arith, ready .stand, ready .nine, count-least digits (room - 2) few, count-front digits n some, ap count front)
+        omega (arith, ready .stand, ready .nine, count-least (h * 10 ^ n / 2 ^ x) (room - 2) few, count-under h x n some)
 
   -- Before any place is tried: as if place 0 had been one of them, and failed.
   pub none-tried : (rest : ℕ) (buf : List ℕ) → rest ≡ h % 2 ^ x → length buf ≡ room → TriedUnder h delta x len 0 len rest delta buf buf

@@ -2,10 +2,13 @@
 use mathlib.Core.Path.{_≡_}
 use mathlib.Core.List.{List}
 use Prim.Native.Nat.{ℕ, min, suc, _+_, _-_, _*_, _/_, _%_, _^_, _≤_, _<_}
+use mathlib.Core.Bool.{true, false}
+use lib.Dec.{leb}
+use lib.IntN.{ℤ, subℕ}
 use Rattle.laws.specs.Puts.{Puts}
 use Rattle.rules.specs.Numbers.{count, numeral}
 use Rattle.rules.specs.Scaled.{Scaled}
-use Rattle.rules.specs.Digits.{Place, places, placesUnder, under, first}
+use Rattle.rules.specs.Digits.{Place, places, placesUnder, first, falls}
 
 -- How many decimal digits n has, but no more than 9.
 abbrev pub countToNine : ℕ → ℕ
@@ -24,6 +27,18 @@ pub record SplitAt (p k front back : ℕ) : Type 0 where
 -- The scaled numbers with H = h, W = w, D = delta and this x.
 abbrev pub given : ℕ → ℕ → ℕ → ℕ → Scaled
 given h w delta x = record { H = h; L = h - delta; W = w; x = x; at = 0 }
+
+-- What digit generation asks of its numbers, and of the room in the buffer.
+pub record Ready (h w delta x room : ℕ) : Type 0 where
+  pub some : 0 < delta
+  pub less : delta < h
+  pub low : h ≤ w + delta
+  pub high : w ≤ h
+  pub whole : 2 ^ x ≤ h
+  pub short : h < 10 ^ 9 * 2 ^ x
+  pub shift : x ≤ 60
+  pub nine : 9 ≤ room
+  pub few : h < 10 ^ (room - 1) * delta
 
 -- What the places at and above zero ask of the numbers, and of the room in the buffer.
 pub record ReadyAbove (h delta x room : ℕ) : Type 0 where
@@ -66,3 +81,23 @@ pub record TriedUnder (h delta x len n next rest room : ℕ) (old new : List ℕ
 pub record EndedUnder (h delta x len n next rest room : ℕ) (old new : List ℕ) : Type 0 where
   pub tried : TriedUnder h delta x len n next rest room old new
   pub passes : rest < room
+
+-- The distance of the value at place -n; from n = 9 on it is 0.
+unfoldable pub distanceUnder : ℕ → ℕ → ℕ
+distanceUnder gap n = elim (leb n 8) as (λ _. ℕ) [ true ↦ gap * 10 ^ n | false ↦ 0 ]
+
+-- A place f: its digits stand from the buffer's start on, and these are its numbers.
+pub record Found (f : Place) (len : ℕ) (place : ℤ) (unit room distance rest : ℕ) (old new : List ℕ) : Type 0 where
+  pub len-is : len ≡ count (f .digits)
+  pub place-is : place ≡ subℕ (f .up) (f .down)
+  pub unit-is : unit ≡ f .unit
+  pub room-is : room ≡ f .room
+  pub distance-is : distance ≡ f .distance
+  pub rest-is : rest ≡ f .rest
+  pub text : Puts (numeral len (f .digits)) old 0 new len
+
+-- A place f: its digits, after their falls, stand from the buffer's start on.
+pub record Generated (f : Place) (len : ℕ) (place : ℤ) (old new : List ℕ) : Type 0 where
+  pub len-is : len ≡ count (f .digits)
+  pub place-is : place ≡ subℕ (f .up) (f .down)
+  pub text : Puts (numeral len (f .digits - falls f 10 (f .rest))) old 0 new len

@@ -2,8 +2,8 @@
 ghost use mathlib.Core.Path.{_≡_};
 ghost use Prim.Native.Nat.{_+_, _*_, _/_, _%_, _^_, _≤_, _<_};
 ghost use lib.ListN.{length};
-ghost use Rattle.rules.specs.Digits.{falls, closer as isCloser};
-ghost use Rattle.dtoa.specs.Digits.{countToNine, measure, SplitAt, ReadyAbove, EndedAbove, ReadyUnder, EndedUnder};
+ghost use Rattle.rules.specs.Digits.{first, falls, closer as isCloser};
+ghost use Rattle.dtoa.specs.Digits.{countToNine, measure, SplitAt, given, Ready, ReadyAbove, EndedAbove, ReadyUnder, EndedUnder, distanceUnder, Found, Generated};
 use crate::put;
 
 // How many decimal digits n has; from 100,000,000 up it says 9.
@@ -207,4 +207,88 @@ fn places_under(h: u64, delta: u64, x: u32, len: usize, buf: &mut [u8]) -> Under
         rest,
         room,
     }
+}
+
+// The distance of the value at a place n below zero. From n = 9 on it is 0, as in the crate.
+fn distance_under(gap: u64, n: usize) -> u64
+    requires { ⌜ gap * 10 ^ n < 2 ^ 64 ⌝ }
+    ensures { λ r. ⌜ r ≡ distanceUnder gap n ⌝ }
+{
+    if n <= 8 {
+        return gap * pow10(n);
+    }
+    0
+}
+
+// The first place that passes: how many digits stand, where it is, and what the falls go by.
+struct First {
+    len: usize,
+    place: i32,
+    unit: u64,
+    room: u64,
+    distance: u64,
+    rest: u64,
+}
+
+// Writes the digits of the first place that passes.
+fn first_place(h: u64, w: u64, delta: u64, x: u32, buf: &mut [u8]) -> First
+    requires { ⌜ Ready h w delta x (length (now buf)) ⌝ }
+    ensures { λ r. ⌜ Found (first (given h w delta x)) (r .len) (r .place) (r .unit) (r .room) (r .distance) (r .rest) (now (buf .entry)) (now (buf .exit)) ⌝ }
+{
+    let top = places_above(h, delta, x, buf);
+    let len = top.len;
+    let kappa = top.kappa;
+    let rest = top.rest;
+    if rest <= delta {
+        let unit = shifted(pow10(kappa), x);
+        let place = kappa as i32;
+        return First {
+            len,
+            place,
+            unit,
+            room: delta,
+            distance: h - w,
+            rest,
+        };
+    }
+    let low = places_under(h, delta, x, len, buf);
+    let distance = distance_under(h - w, low.down);
+    let place = 0 - low.down as i32;
+    First {
+        len: low.len,
+        place,
+        unit: shifted(1, x),
+        room: low.room,
+        distance,
+        rest: low.rest,
+    }
+}
+
+// How many digits were written, and the place of the last.
+pub struct Digits {
+    pub len: usize,
+    pub place: i32,
+}
+
+// Writes the digits of the scaled numbers h (upper), w (value), delta and x from the buffer's start on.
+pub fn digit_gen64(h: u64, w: u64, delta: u64, x: u32, buf: &mut [u8]) -> Digits
+    requires { ⌜ Ready h w delta x (length (now buf)) ⌝ }
+    ensures { λ r. ⌜ Generated (first (given h w delta x)) (r .len) (r .place) (now (buf .entry)) (now (buf .exit)) ⌝ }
+{
+    let f = first_place(h, w, delta, x, buf);
+    let fallen = grisu_round(f.unit, f.room, f.distance, f.rest);
+    let last = f.len - 1;
+    buf[last] = buf[last] - fallen;
+    Digits {
+        len: f.len,
+        place: f.place,
+    }
+}
+
+// The same at 32 bits: a u64 holds every number that comes, and the numbers alone decide.
+pub fn digit_gen32(h: u32, w: u32, delta: u32, x: u32, buf: &mut [u8]) -> Digits
+    requires { ⌜ Ready h w delta x (length (now buf)) ⌝ }
+    ensures { λ r. ⌜ Generated (first (given h w delta x)) (r .len) (r .place) (now (buf .entry)) (now (buf .exit)) ⌝ }
+{
+    digit_gen64(h as u64, w as u64, delta as u64, x, buf)
 }

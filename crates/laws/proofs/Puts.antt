@@ -5,8 +5,8 @@ use Prim.Native.Nat.{ℕ, _+_, _-_, _≤_, _<_}
 use native.Mathlib.Nat.{add-assoc, add-zero, zero-add}
 use native.Mathlib.Numerals.{add-one}
 use native.Mathlib.Omega.{arith}
-use lib.ListN.{length, set, take, drop, length-append, length-drop, length-take, take-append-drop, drop-of-length-le}
-use lib.Seq.{length-take-le, take-at, drop-at, drop-drop, set-split, take-all, take-append-le, take-take}
+use lib.ListN.{length, getD, set, take, drop, length-append, length-drop, length-take, take-append-drop, drop-of-length-le}
+use lib.Seq.{append-snoc, getD-at, length-take-le, set-at, take-at, drop-at, drop-drop, set-split, take-all, take-append-le, take-take}
 use borrow.Rule.Slice.PartMut.{putMid}
 use Rattle.laws.specs.Puts.{placed, Puts}
 
@@ -112,3 +112,22 @@ part {A} {t} {out} {last} {next} at within p =
 -- How much room the part has.
 pub part-room : {A : Type 0} (out : List A) (at n : ℕ) → at + n ≤ length out → n ≤ length (take (length out - at) (drop at out))
 part-room out at n h = simp (length-take, length-drop) (omega arith)
+
+module _ {A : Type 0} (t : List A) (y : A) {out last : List A} {next : ℕ} (n : ℕ) (long : length t ≡ n) (p : Puts (t ++ (y ∷ [])) out 0 last next) where
+  ends : last ≡ t ++ (y ∷ drop (length (t ++ (y ∷ []))) out)
+  ends = from-start p ∙ append-snoc t y _
+
+  -- The last of what was put is read there.
+  pub last-is : (d : A) → getD last n d ≡ y
+  last-is d = rw ends (getD-at t y _ d n long)
+
+  -- Another in its stead is put instead.
+  pub last-changed : (z : A) → Puts (t ++ (z ∷ [])) out 0 (set last n z) next
+  unfolding placed
+  last-changed z =
+      let same : length (t ++ (z ∷ [])) ≡ length (t ++ (y ∷ [])) = simp length-append in
+      record {
+        room = omega (arith, same, p .room);
+        behind = omega (arith, same, p .behind);
+        elements = rw (ends, set-at t y _ z n long, zero-add, same) (sym (append-snoc t z _));
+      }
