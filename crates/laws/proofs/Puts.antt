@@ -1,12 +1,12 @@
 -- How elements put into a list one after the other, or one before the other, are put at once. Assumes nothing.
 use mathlib.Core.Path.{_≡_, refl, sym, ap, _∙_}
 use mathlib.Core.List.{List, [], _∷_, _++_, append-assoc, append-nil}
-use Prim.Native.Nat.{ℕ, _+_, _-_, _≤_, _<_}
+use Prim.Native.Nat.{ℕ, suc, _+_, _-_, _≤_, _<_}
 use native.Mathlib.Nat.{add-assoc, add-zero, zero-add}
 use native.Mathlib.Numerals.{add-one}
 use native.Mathlib.Omega.{arith}
-use lib.ListN.{length, getD, set, take, drop, length-append, length-drop, length-take, take-append-drop, drop-of-length-le}
-use lib.Seq.{append-snoc, getD-at, length-take-le, set-at, take-at, drop-at, drop-drop, set-split, take-all, take-append-le, take-take}
+use lib.ListN.{length, getD, set, take, drop, length-append, length-drop, length-take, take-append-drop, drop-of-length-le, List·getD-append}
+use lib.Seq.{append-snoc, getD-at, getD-take, length-take-le, set-at, take-at, drop-at, drop-drop, set-split, slice, slice-cons, slice-empty, take-all, take-append-le, take-take}
 use borrow.Rule.Slice.PartMut.{putMid}
 use Rattle.laws.specs.Puts.{placed, Puts}
 
@@ -131,3 +131,23 @@ module _ {A : Type 0} (t : List A) (y : A) {out last : List A} {next : ℕ} (n :
         behind = omega (arith, same, p .behind);
         elements = rw (ends, set-at t y _ z n long, zero-add, same) (sym (append-snoc t z _));
       }
+
+-- What stands before the place is as it was.
+pub unchanged : {A : Type 0} {t out last : List A} {at next : ℕ} (i : ℕ) (d : A) → i < at → Puts t out at last next → getD last i d ≡ getD out i d
+unfolding placed
+unchanged {A} {t} {out} {last} {at} i d less p =
+    let long : i < length (take at out) = omega (arith, length-take-le at out (omega (arith, p .room))) in
+    rw (p .elements) (List·getD-append (take at out) _ d i long ∙ getD-take at out i d less)
+
+-- Elements moved further up, the last first: before the first move, and one more.
+module _ {A : Type 0} (out : List A) (end by : ℕ) (room : end + by ≤ length out) where
+  pub none-moved : Puts (slice end end out) out (end + by) out (end + by)
+  none-moved = rw (slice-empty end out) (none out (end + by) room)
+
+  pub one-moved : {last : List A} {next : ℕ} (i : ℕ) (d : A) → 0 < i → i ≤ end → Puts (slice i end out) out (i + by) last next →
+      Puts (slice (i - 1) end out) out (i - 1 + by) (set last (i - 1 + by) (getD last (i - 1) d)) next
+  one-moved {last} i d some within p =
+      let is : suc (i - 1) ≡ i = omega arith in
+      let place : i - 1 + by + 1 ≡ i + by = omega arith in
+      rw (slice-cons (i - 1) end out d (omega arith) (omega arith), is, unchanged (i - 1) d (omega arith) p)
+      (before p (rw place at (one last (i - 1 + by) (getD out (i - 1) d) (omega (arith, kept p)))))
