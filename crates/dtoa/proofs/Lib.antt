@@ -6,3 +6,5 @@ pub mod Above
 pub mod Under
 pub mod First
 pub mod Given
+pub mod Cut
+pub mod Texts

@@ -6,7 +6,7 @@ use native.Mathlib.Nat.{add-assoc, add-zero, zero-add}
 use native.Mathlib.Numerals.{add-one}
 use native.Mathlib.Omega.{arith}
 use lib.ListN.{length, getD, set, take, drop, length-append, length-drop, length-take, take-append-drop, drop-of-length-le, List·getD-append}
-use lib.Seq.{append-snoc, getD-at, getD-take, length-take-le, set-at, take-at, drop-at, drop-drop, set-split, slice, slice-cons, slice-empty, take-all, take-append-le, take-take}
+use lib.Seq.{append-snoc, getD-at, getD-take, length-slice, length-take-le, set-at, take-at, drop-at, drop-drop, set-split, slice, slice-cons, slice-empty, take-all, take-append-le, take-take}
 use borrow.Rule.Slice.PartMut.{putMid}
 use Rattle.laws.specs.Puts.{placed, Puts}
 
@@ -71,13 +71,13 @@ then {A} {t} {u} {out} {mid} {last} {at} p q =
     }
 
 -- One before the other.
-pub before : {A : Type 0} {t u out mid last : List A} {at m next : ℕ} → Puts t out m mid next → Puts u mid at last m →
+pub before : {A : Type 0} {t u out mid last : List A} {at m k next : ℕ} → Puts t out m mid next → Puts u mid at last k → at + length u ≡ m →
     Puts (u ++ t) out at last next
-before {A} {t} {u} {out} {mid} {last} {at} p q =
+before {A} {t} {u} {out} {mid} {last} {at} p q meet =
     record {
-      room = simp length-append (omega (arith, p .room, q .behind));
-      behind = simp length-append (omega (arith, p .behind, q .behind));
-      elements = rw (q .elements, p .elements, q .behind) (placed-before out at u t (omega (arith, kept p, q .room)));
+      room = simp length-append (omega (arith, p .room));
+      behind = simp length-append (omega (arith, p .behind));
+      elements = rw (q .elements, p .elements, ← meet) (placed-before out at u t (omega (arith, kept p, q .room)));
     }
 
 -- What stands before the place counts as put.
@@ -148,6 +148,10 @@ module _ {A : Type 0} (out : List A) (end by : ℕ) (room : end + by ≤ length 
       Puts (slice (i - 1) end out) out (i - 1 + by) (set last (i - 1 + by) (getD last (i - 1) d)) next
   one-moved {last} i d some within p =
       let is : suc (i - 1) ≡ i = omega arith in
-      let place : i - 1 + by + 1 ≡ i + by = omega arith in
       rw (slice-cons (i - 1) end out d (omega arith) (omega arith), is, unchanged (i - 1) d (omega arith) p)
-      (before p (rw place at (one last (i - 1 + by) (getD out (i - 1) d) (omega (arith, kept p)))))
+      (before p (one last (i - 1 + by) (getD out (i - 1) d) (omega (arith, kept p))) (omega arith))
+
+-- Behind those that were moved.
+pub moved-end : {A : Type 0} {out last : List A} {next : ℕ} (from end by : ℕ) → from ≤ end → end ≤ length out →
+    Puts (slice from end out) out (from + by) last next → next ≡ end + by
+moved-end {A} {out} from end by ordered within p = omega (arith, p .behind, length-slice from end out within)
