@@ -18,8 +18,8 @@ use Rattle.laws.proofs.Signed.{read, Held, Apart, held, less, at-least}
 use Rattle.rules.specs.Width.{Width, off}
 use Rattle.rules.specs.Pattern.{Pair}
 use Rattle.rules.specs.Boundaries.{shifted, upper, below, lower}
-use Rattle.rules.proofs.Boundaries.{Finite, apart, upper-shifted, value-shifted, below-exponent}
-use Rattle.rules.proofs.Widths.{Sound}
+use Rattle.theorems.proofs.Boundaries.{Finite, apart, upper-shifted, value-shifted, below-exponent}
+use Rattle.theorems.proofs.Widths.{Sound}
 use Rattle.diyfp.specs.Pairs.{Stands, StandsIn, Becomes, Shiftable, Bounds}
 use Rattle.diyfp.proofs.Small.{Small}
 use Rattle.diyfp.proofs.Standing.{kind}

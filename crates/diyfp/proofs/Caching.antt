@@ -12,8 +12,8 @@ use Rattle.laws.proofs.Signed as signed
 use Rattle.laws.proofs.Signed.{read, Is, Held, unchanged, natural}
 use Rattle.rules.specs.Width.{Width, off}
 use Rattle.rules.specs.Power.{index, P}
-use Rattle.rules.proofs.Widths.{Sound}
-use Rattle.rules.proofs.Power.{Reach, reach}
+use Rattle.theorems.proofs.Widths.{Sound}
+use Rattle.theorems.proofs.Power.{Reach, reach}
 use Rattle.diyfp.specs.Powers.{Served, Cached}
 use Rattle.diyfp.proofs.Small.{Small}
 

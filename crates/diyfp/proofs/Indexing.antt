@@ -20,8 +20,8 @@ use Rattle.rules.specs.Width as rules
 use Rattle.rules.specs.Width.{Width, off}
 use Rattle.rules.specs.Pattern.{allOnes}
 use Rattle.rules.specs.Power.{jRaised, index}
-use Rattle.rules.proofs.Widths.{Sound}
-use Rattle.rules.proofs.Power.{Least, j-least, index-is}
+use Rattle.theorems.proofs.Widths.{Sound}
+use Rattle.theorems.proofs.Power.{Least, j-least, index-is}
 use Rattle.diyfp.specs.Powers.{Served}
 use Rattle.diyfp.proofs.Small.{Small}
 

@@ -18,7 +18,7 @@ use Rattle.laws.proofs.Signed.{read, Is, Held, Apart, held, less}
 use Rattle.rules.specs.Width.{Width, off}
 use Rattle.rules.specs.Pattern.{Pair, allOnes}
 use Rattle.rules.specs.Boundaries.{shifted}
-use Rattle.rules.proofs.Boundaries.{Shifted, shifts, no-further}
+use Rattle.theorems.proofs.Boundaries.{Shifted, shifts, no-further}
 use Rattle.diyfp.specs.Pairs.{Stands, StandsIn, Becomes, Shiftable}
 use Rattle.diyfp.proofs.Small.{Small}
 use Rattle.diyfp.proofs.Standing.{kind}

@@ -8,7 +8,7 @@ ghost use Rattle.rules.specs.Width.{w32, w64, off};
 ghost use Rattle.rules.specs.Pattern.{magnitude};
 ghost use Rattle.rules.specs.Boundaries.{shifted, below};
 ghost use Rattle.rules.specs.Power.{index};
-ghost use Rattle.rules.proofs.Boundaries.{Finite};
+ghost use Rattle.theorems.proofs.Boundaries.{Finite};
 ghost use Rattle.diyfp.specs.Pairs.{Stands, StandsIn, Becomes, Shiftable, Bounds, Near, Times};
 ghost use Rattle.diyfp.specs.Powers.{Served, Cached};
 

@@ -6,3 +6,4 @@ pub mod Signed
 pub mod Arms
 pub mod Exponents
 pub mod Closest
+pub mod Puts

@@ -4,7 +4,7 @@ use Prim.Native.Nat.{ℕ}
 use native.Mathlib.Omega.{arith}
 use lib.IntN.{subℕ}
 use Rattle.rules.specs.Width.{w32, off}
-use Rattle.rules.proofs.Widths.{sound32}
+use Rattle.theorems.proofs.Widths.{sound32}
 use Rattle.diyfp.proofs.Small.{small32}
 use Rattle.diyfp.proofs.Indexing.{Indexed, most, indexed, handy32}
 use Rattle.diyfp.proofs.cached_index32.Statement.{statement}

@@ -4,7 +4,7 @@ use Prim.Native.Nat.{ℕ}
 use native.Mathlib.Omega.{arith}
 use lib.IntN.{subℕ}
 use Rattle.rules.specs.Width.{w64, off}
-use Rattle.rules.proofs.Widths.{sound64}
+use Rattle.theorems.proofs.Widths.{sound64}
 use Rattle.diyfp.proofs.Small.{small64}
 use Rattle.diyfp.proofs.Indexing.{Indexed, most, indexed, handy64}
 use Rattle.diyfp.proofs.cached_index64.Statement.{statement}

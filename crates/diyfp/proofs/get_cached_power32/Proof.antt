@@ -3,7 +3,7 @@ use Prim.Native.Nat.{_<_}
 use native.Mathlib.Omega.{arith}
 use Rattle.rules.specs.Tables.{significands32}
 use Rattle.rules.specs.Width.{w32}
-use Rattle.rules.proofs.Widths.{sound32}
+use Rattle.theorems.proofs.Widths.{sound32}
 use Rattle.diyfp.proofs.Small.{small32}
 use Rattle.diyfp.proofs.Caching.{served, inside, eightfold, decimal-held, cached}
 use Rattle.diyfp.proofs.get_cached_power32.Statement.{statement}

@@ -5,7 +5,7 @@ use lib.Dec.{lit≤}
 use lib.IntN.{_-ℤ_}
 use Rattle.laws.proofs.Signed.{read}
 use Rattle.rules.specs.Width.{w32}
-use Rattle.rules.proofs.Widths.{sound32}
+use Rattle.theorems.proofs.Widths.{sound32}
 use Rattle.diyfp.proofs.Small.{small32}
 use Rattle.diyfp.proofs.Bounding.{falls, above-fits, above, Brought, brings, bounds}
 use Rattle.diyfp.proofs.DiyFp32.normalized_boundaries.Statement.{statement}

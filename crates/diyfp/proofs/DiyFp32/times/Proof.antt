@@ -5,7 +5,7 @@ use native.Mathlib.Omega.{arith}
 use borrow.Author.Needs.{needs}
 use lib.Dec.{lit<, lit≤}
 use Rattle.rules.specs.Width.{w32}
-use Rattle.rules.proofs.Product.{dropped-nothing}
+use Rattle.theorems.proofs.Product.{dropped-nothing}
 use Rattle.diyfp.proofs.Multiplying.{Sum, sums, product-fits, rounded-fits}
 use Rattle.diyfp.proofs.DiyFp32.times.Statement.{statement}
 use Rattle.diyfp.proofs.DiyFp32.times.Tie as tie

@@ -3,7 +3,7 @@ use mathlib.Core.Path.{sym, _∙_}
 use native.Mathlib.Omega.{arith}
 use lib.Dec.{lit<, lit≤}
 use Rattle.rules.specs.Width.{w64}
-use Rattle.rules.proofs.Product.{dropped-nothing}
+use Rattle.theorems.proofs.Product.{dropped-nothing}
 use Rattle.diyfp.proofs.Multiplying.{Sum, sums, Halves, halves, rounded}
 use Rattle.diyfp.proofs.DiyFp64.times.Statement.{statement}
 use Rattle.diyfp.proofs.DiyFp64.times.Tie as tie

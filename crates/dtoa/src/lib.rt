@@ -1,0 +1,4 @@
+// Floats as text: the digits, and how they are laid out.
+mod digits;
+mod layout;
+mod put;
