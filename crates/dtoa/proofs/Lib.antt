@@ -6,5 +6,7 @@ pub mod Above
 pub mod Under
 pub mod First
 pub mod Given
+pub mod Scaling
+pub mod Deciding
 pub mod Cut
 pub mod Texts

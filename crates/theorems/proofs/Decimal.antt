@@ -103,7 +103,7 @@ module _ (w : Width) (q : ℕ) (p : Printable w q) (m : Pair) (h : Finite w m) w
       ⊎-elim (λ more. absurd (omega (arith, j .smaller (w .tens + 331) more, p .least))) (λ less. less) (which (w .tens + 331) (jRaised w E)) in
       rw (index-is w E (s .tens)) (omega (arith, p .level))
 
-  low-some : 0 < b .L
+  pub low-some : 0 < scaled w m .L
   unfolding scaled
   low-some = omega arith
 
