@@ -8,3 +8,4 @@ pub mod First
 pub mod Given
 pub mod Cut
 pub mod Texts
+pub mod Ruled
