@@ -1,11 +1,11 @@
 -- The decimals that are kept of more than 324: zeros at their end go one after the other. Assumes nothing.
 use mathlib.Core.Path.{_≡_, refl, ap}
 use mathlib.Core.List.{List, [], _∷_, _++_}
-use Prim.Native.Nat.{ℕ, zero, suc, _+_, _-_, _≤_, _<_}
+use Prim.Native.Nat.{ℕ, suc, _+_, _-_, _≤_, _<_}
 use native.Mathlib.Omega.{arith}
 use lib.ListN.{length, getD, take}
 use lib.Seq.{length-take-le, take-suc}
-use borrow.Author.Tests.{le-ltb, lt-ltb, eq-eqb, ne-eqb}
+use borrow.Author.Tests.{le-ltb, lt-ltb, ne-eqb}
 use Rattle.rules.specs.Bytes.{byte0}
 use Rattle.rules.specs.Layout.{joined, trimmed, oneKept, decimals}
 

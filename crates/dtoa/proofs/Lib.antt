@@ -10,3 +10,4 @@ pub mod Scaling
 pub mod Deciding
 pub mod Cut
 pub mod Texts
+pub mod Ruled

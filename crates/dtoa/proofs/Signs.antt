@@ -12,7 +12,7 @@ use mir.Facts.{toZ-ofZ, toZ-pos}
 use mir.Syntax.{w32}
 use mir.Val.{SFits, toZ, ofZ}
 use borrow.Author.Tests.{ltb-true}
-use Rattle.laws.proofs.Differences.{bounded}
+use Rattle.laws.proofs.Differences.{bounded, is-negsuc}
 use Rattle.rules.specs.Bytes as byte
 use Rattle.rules.specs.Numbers.{plain}
 use Rattle.rules.specs.Layout.{exponent}
@@ -52,3 +52,13 @@ minus n h = rw (toZ-pos w32 h) (below n)
 
 pub minus-fits : (n : ℕ) → n < 2 ^ 31 → SFits w32 (subℕ 0 n)
 minus-fits n h = record { sfits = bounded (2 ^ 31) 0 n (omega arith) (omega arith) }
+
+-- A number below zero is minus how far away it is.
+pub is-minus : (k : ℤ) → ltZ k (pos 0) ≡ true → k ≡ subℕ 0 (natAbs k)
+is-minus (pos n) e = absurd (not-suc-le-zero (ltb-true n 0 e))
+is-minus (negsuc n) e = is-negsuc n 0 (suc n) (omega arith)
+
+-- It is away from zero.
+pub away : (k : ℤ) → ltZ k (pos 0) ≡ true → 0 < natAbs k
+away (pos n) e = absurd (not-suc-le-zero (ltb-true n 0 e))
+away (negsuc n) e = omega arith

@@ -1,0 +1,49 @@
+-- `dtoa::layout::small` meets its contract. Assumes nothing.
+use Rattle.dtoa.proofs.Texts.{small-text}
+use borrow.Author.Needs.{needs}
+use Rattle.dtoa.proofs.layout.small.Statement.{statement}
+use Rattle.dtoa.proofs.layout.small.Tie as tie
+
+add-moved : tie.Need-add-moved
+add-moved c = search needs
+
+moved-requires : tie.Need-moved-requires
+moved-requires c κs = search needs
+
+byte-requires : tie.Need-byte-requires
+byte-requires c κs = search needs
+
+byte-requires-2 : tie.Need-byte-requires-2
+byte-requires-2 c κs = search needs
+
+zeros-requires : tie.Need-zeros-requires
+zeros-requires c κs = search needs
+
+cut-requires : tie.Need-cut-requires
+cut-requires c κs = search needs
+
+same-length : tie.Need-same-length
+same-length c = search needs
+
+returns : tie.Need-returns
+returns c =
+    let zeros = c .before .before .before .before in
+    let dot = zeros .before .before .before .before in
+    let zero = dot .before .before .before .before in
+    let gap = zero .before .before .before .before in
+    let start = gap .before .before .before in
+    small-text _ _ (start .pre .0) _ (start .pre .1) (gap .moved .ensures) (zero .byte .ensures) (dot .byte2 .ensures) (zeros .zeros .ensures)
+    (c .cut .ensures)
+
+pub small-spec : {M : Type 1} → statement M
+small-spec =
+    tie.close
+    (tie.spec
+    add-moved
+    moved-requires
+    byte-requires
+    byte-requires-2
+    zeros-requires
+    cut-requires
+    same-length
+    returns)
