@@ -1,16 +1,21 @@
 -- From a finite magnitude other than zero to its three products: what each step leaves meets what the next requires. Assumes nothing.
-use mathlib.Core.Path.{_≡_, sym, ap, _∙_}
-use Prim.Native.Nat.{ℕ, _+_, _^_, _≤_}
+use mathlib.Core.Path.{_≡_, _∙_}
+use Prim.Native.Nat.{ℕ, _+_, _*_, _^_, _≤_}
+use native.Mathlib.Nat.{lt-trans}
 use native.Mathlib.Omega.{arith}
-use lib.IntN.{ℤ, pos, subℕ, _+ℤ_}
+use lib.Dec.{lit<}
+use lib.IntN.{ℤ}
 use lib.ListN.{getD}
 use lib.Pow.{pow-mono}
-use Rattle.laws.proofs.Differences.{same, add, more, bounded}
+use mir.Facts.{toZ-ofZ}
+use mir.Syntax.{w32}
+use Rattle.laws.proofs.Differences.{same, add, more, minus, bounded}
+use Rattle.laws.proofs.Signed.{read}
 use Rattle.rules.specs.Numbers.{neg}
 use Rattle.rules.specs.Width.{Width, off}
 use Rattle.rules.specs.Pattern.{Pair}
 use Rattle.rules.specs.Boundaries.{upper}
-use Rattle.rules.specs.Power.{index}
+use Rattle.rules.specs.Power.{index, P}
 use Rattle.rules.specs.Product.{product}
 use Rattle.rules.specs.Scaled.{scaled}
 use Rattle.rules.proofs.Widths.{Sound}
@@ -19,6 +24,10 @@ use Rattle.rules.proofs.Power.{Reach, reach}
 use Rattle.diyfp.specs.Pairs.{Stands, StandsIn, Shiftable, Near, Times}
 use Rattle.diyfp.specs.Powers.{Served, Cached}
 use Rattle.diyfp.proofs.Small.{Small}
+
+-- A number near zero is read from an i32 as it was written.
+pub near-read : {z : ℤ} → Near z → read z ≡ z
+near-read {z} near = toZ-ofZ {w = w32} {z = z} (record { sfits = lt-trans near (lit< tt) })
 
 -- The product (h, y) of the pair a and the entry for the magnitude m: its significand, and -x.
 pub record Multiplied (w : Width) (m a : Pair) (h : ℕ) (y : ℤ) : Type 0 where
@@ -66,7 +75,14 @@ module _ {w : Width} {q : ℕ} (sound : Sound w q) (small : Small w) {m : Pair} 
       rw (c .exponent)
       (bounded (2 ^ 13) (getD (w .exponents) (index w E) 0) (w .twos) (omega (arith, small .sum, reached .least-x)) (omega (arith, small .sum)))
 
-  -- What `times` answers.
+  -- So is the decimal exponent.
+  pub decimal-near : {f : ℕ} {e k : ℤ} → Cached w E f e k → Near k
+  unfolding P
+  decimal-near c =
+      rw (c .decimal, minus)
+      (bounded (2 ^ 13) (w .tens) (8 * index w E) (omega (arith, small .sum)) (omega (arith, small .sum, reached .inside)))
+
+  -- What `times` answers ..
   pub multiplied : {a : Pair} {f g h : ℕ} {e d k y : ℤ} → a .exp ≡ E → Stands w a f e → Cached w E g d k → Times w f e g d h y →
       Multiplied w m a h y
   unfolding scaled
@@ -79,3 +95,8 @@ module _ {w : Width} {q : ℕ} (sound : Sound w q) (small : Small w) {m : Pair} 
             ∙ rw (s .exponent, c .exponent, add, more)
             (same (a .exp + X + w .N) (off w + w .twos) 0 (scaled w m .x) (omega (arith, at, reached .least-x)));
       }
+
+  -- .. has an exponent near zero too.
+  pub product-near : {a : Pair} {h : ℕ} {y : ℤ} → Multiplied w m a h y → Near y
+  unfolding scaled
+  product-near t = rw (t .exponent) (bounded (2 ^ 13) 0 (scaled w m .x) (omega arith) (omega (arith, small .sum)))
