@@ -3,14 +3,23 @@ mod tables;
 
 ghost use mathlib.Core.Path.{_≡_};
 ghost use Prim.Native.Nat.{ℕ};
-ghost use lib.IntN.{subℕ};
+ghost use lib.IntN.{pos, natAbs, subℕ, _+ℤ_};
+ghost use lib.Signed.{shrZ};
 ghost use Rattle.rules.specs.Width.{w32, w64, off};
 ghost use Rattle.rules.specs.Pattern.{magnitude};
 ghost use Rattle.rules.specs.Boundaries.{shifted, below};
-ghost use Rattle.rules.specs.Power.{index};
+ghost use Rattle.rules.specs.Power.{k};
 ghost use Rattle.rules.proofs.Boundaries.{Finite};
 ghost use Rattle.diyfp.specs.Pairs.{Stands, StandsIn, Becomes, Shiftable, Bounds, Near, Times};
-ghost use Rattle.diyfp.specs.Powers.{Served, Cached};
+ghost use Rattle.diyfp.specs.Powers.{Served, Indexable, Cached};
+
+// The table's index: one more than k / 8, where the division rounds down.
+fn power_index(k: i32) -> usize
+    requires { ⌜ Indexable k ⌝ }
+    ensures { λ r. ⌜ r ≡ natAbs (shrZ k 8 +ℤ pos 1) ⌝ }
+{
+    ((k >> 3) + 1) as usize
+}
 
 // The number f * 2^e, with 32 bits for f.
 pub struct DiyFp32 {
@@ -128,14 +137,12 @@ impl DiyFp32 {
     }
 }
 
-// The table's index for an upper boundary's exponent e: one more than k / 8 rounded down, where k = j + 35 and j is the
-// smallest whole number with 10^j >= 2^(-29 - e).
-fn cached_index32(e: i32) -> usize
+// k for an upper boundary's exponent e: j + 35, where j is the smallest whole number with 10^j >= 2^(-29 - e).
+fn power_k32(e: i32) -> i32
     requires { ⌜ Served w32 e ⌝ }
-    ensures { λ r. ⌜ ((E : ℕ) → e ≡ subℕ E (off w32) → r ≡ index w32 E) ⌝ }
+    ensures { λ r. ⌜ ((E : ℕ) → e ≡ subℕ E (off w32) → r ≡ k w32 E) ⌝ }
 {
-    let k = 35 - (((e + 29) * 78913) >> 18);
-    ((k >> 3) + 1) as usize
+    35 - (((e + 29) * 78913) >> 18)
 }
 
 // The power of ten that scales an upper boundary of exponent e.
@@ -143,7 +150,7 @@ pub fn get_cached_power32(e: i32) -> CachedPower32
     requires { ⌜ Served w32 e ⌝ }
     ensures { λ r. ⌜ ((E : ℕ) → e ≡ subℕ E (off w32) → Cached w32 E (r .power .f) (r .power .e) (r .k)) ⌝ }
 {
-    let index = cached_index32(e);
+    let index = power_index(power_k32(e));
     let power = DiyFp32 {
         f: tables::significand32(index),
         e: tables::exponent32(index),
@@ -278,14 +285,12 @@ impl DiyFp64 {
     }
 }
 
-// The table's index for an upper boundary's exponent e: one more than k / 8 rounded down, where k = j + 347 and j is the
-// smallest whole number with 10^j >= 2^(-61 - e).
-fn cached_index64(e: i32) -> usize
+// k for an upper boundary's exponent e: j + 347, where j is the smallest whole number with 10^j >= 2^(-61 - e).
+fn power_k64(e: i32) -> i32
     requires { ⌜ Served w64 e ⌝ }
-    ensures { λ r. ⌜ ((E : ℕ) → e ≡ subℕ E (off w64) → r ≡ index w64 E) ⌝ }
+    ensures { λ r. ⌜ ((E : ℕ) → e ≡ subℕ E (off w64) → r ≡ k w64 E) ⌝ }
 {
-    let k = 347 - (((e + 61) * 78913) >> 18);
-    ((k >> 3) + 1) as usize
+    347 - (((e + 61) * 78913) >> 18)
 }
 
 // The power of ten that scales an upper boundary of exponent e.
@@ -293,7 +298,7 @@ pub fn get_cached_power64(e: i32) -> CachedPower64
     requires { ⌜ Served w64 e ⌝ }
     ensures { λ r. ⌜ ((E : ℕ) → e ≡ subℕ E (off w64) → Cached w64 E (r .power .f) (r .power .e) (r .k)) ⌝ }
 {
-    let index = cached_index64(e);
+    let index = power_index(power_k64(e));
     let power = DiyFp64 {
         f: tables::significand64(index),
         e: tables::exponent64(index),

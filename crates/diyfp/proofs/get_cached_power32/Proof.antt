@@ -5,16 +5,20 @@ use Rattle.rules.specs.Tables.{significands32}
 use Rattle.rules.specs.Width.{w32}
 use Rattle.rules.proofs.Widths.{sound32}
 use Rattle.diyfp.proofs.Small.{small32}
-use Rattle.diyfp.proofs.Caching.{served, inside, eightfold, decimal-held, cached}
+use Rattle.diyfp.proofs.Caching.{served, has-index, inside, eightfold, decimal-held, cached}
 use Rattle.diyfp.proofs.get_cached_power32.Statement.{statement}
 use Rattle.diyfp.proofs.get_cached_power32.Tie as tie
 
-cached-index32-requires : tie.Need-cached-index32-requires
-cached-index32-requires c κs = served sound32 small32 (c .pre)
+power-k32-requires : tie.Need-power-k32-requires
+power-k32-requires c κs = served sound32 small32 (c .pre)
 
-entered : (c : tie.After-cached-index32) → c .cached-index32 .result < 12
-unfolding w32 significands32
-entered c = inside sound32 small32 (c .before .pre) (c .cached-index32 .ensures)
+power-index-requires : tie.Need-power-index-requires
+power-index-requires c κs = has-index sound32 small32 (c .before .pre) (c .power-k32 .ensures)
+
+module _ (c : tie.After-power-index) where
+  entered : c .power-index .result < 12
+  unfolding w32 significands32
+  entered = inside sound32 small32 (c .before .before .pre) (c .before .power-k32 .ensures) (c .power-index .ensures)
 
 significand32-requires : tie.Need-significand32-requires
 significand32-requires c κs = entered c
@@ -22,21 +26,36 @@ significand32-requires c κs = entered c
 exponent32-requires : tie.Need-exponent32-requires
 exponent32-requires c κs = entered (c .before)
 
-cast-t5 : tie.Need-cast-t5
-cast-t5 c =
-    omega (arith, entered (c .before .before), eightfold sound32 small32 (c .before .before .before .pre) (c .before .before .cached-index32 .ensures))
+cast-t4 : tie.Need-cast-t4
+cast-t4 c =
+    let a = c .before .before in
+    omega (
+      arith,
+      entered a,
+      eightfold sound32 small32 (a .before .before .pre) (a .before .power-k32 .ensures) (a .power-index .ensures),
+    )
 
 sub-t7 : tie.Need-sub-t7
 unfolding w32
-sub-t7 c = decimal-held sound32 small32 (c .before .before .before .pre) (c .before .before .cached-index32 .ensures) .fits
+sub-t7 c =
+    let a = c .before .before in
+    decimal-held sound32 small32 (a .before .before .pre) (a .before .power-k32 .ensures) (a .power-index .ensures) .fits
 
 returns : tie.Need-returns
 unfolding w32
 returns c =
-    cached sound32 small32 (c .before .before .before .pre) (c .before .before .cached-index32 .ensures)
+    let a = c .before .before in
+    cached sound32 small32 (a .before .before .pre) (a .before .power-k32 .ensures) (a .power-index .ensures)
     (c .before .significand32 .ensures) (c .exponent32 .ensures)
 
 pub get-cached-power32-spec : {M : Type 1} → statement M
 get-cached-power32-spec =
     tie.close
-    (tie.spec cached-index32-requires significand32-requires exponent32-requires cast-t5 sub-t7 returns)
+    (tie.spec
+    power-k32-requires
+    power-index-requires
+    significand32-requires
+    exponent32-requires
+    cast-t4
+    sub-t7
+    returns)

@@ -5,16 +5,20 @@ use Rattle.rules.specs.Tables.{significands64}
 use Rattle.rules.specs.Width.{w64}
 use Rattle.rules.proofs.Widths.{sound64}
 use Rattle.diyfp.proofs.Small.{small64}
-use Rattle.diyfp.proofs.Caching.{served, inside, eightfold, decimal-held, cached}
+use Rattle.diyfp.proofs.Caching.{served, has-index, inside, eightfold, decimal-held, cached}
 use Rattle.diyfp.proofs.get_cached_power64.Statement.{statement}
 use Rattle.diyfp.proofs.get_cached_power64.Tie as tie
 
-cached-index64-requires : tie.Need-cached-index64-requires
-cached-index64-requires c κs = served sound64 small64 (c .pre)
+power-k64-requires : tie.Need-power-k64-requires
+power-k64-requires c κs = served sound64 small64 (c .pre)
 
-entered : (c : tie.After-cached-index64) → c .cached-index64 .result < 87
-unfolding w64 significands64
-entered c = inside sound64 small64 (c .before .pre) (c .cached-index64 .ensures)
+power-index-requires : tie.Need-power-index-requires
+power-index-requires c κs = has-index sound64 small64 (c .before .pre) (c .power-k64 .ensures)
+
+module _ (c : tie.After-power-index) where
+  entered : c .power-index .result < 87
+  unfolding w64 significands64
+  entered = inside sound64 small64 (c .before .before .pre) (c .before .power-k64 .ensures) (c .power-index .ensures)
 
 significand64-requires : tie.Need-significand64-requires
 significand64-requires c κs = entered c
@@ -22,21 +26,36 @@ significand64-requires c κs = entered c
 exponent64-requires : tie.Need-exponent64-requires
 exponent64-requires c κs = entered (c .before)
 
-cast-t5 : tie.Need-cast-t5
-cast-t5 c =
-    omega (arith, entered (c .before .before), eightfold sound64 small64 (c .before .before .before .pre) (c .before .before .cached-index64 .ensures))
+cast-t4 : tie.Need-cast-t4
+cast-t4 c =
+    let a = c .before .before in
+    omega (
+      arith,
+      entered a,
+      eightfold sound64 small64 (a .before .before .pre) (a .before .power-k64 .ensures) (a .power-index .ensures),
+    )
 
 sub-t7 : tie.Need-sub-t7
 unfolding w64
-sub-t7 c = decimal-held sound64 small64 (c .before .before .before .pre) (c .before .before .cached-index64 .ensures) .fits
+sub-t7 c =
+    let a = c .before .before in
+    decimal-held sound64 small64 (a .before .before .pre) (a .before .power-k64 .ensures) (a .power-index .ensures) .fits
 
 returns : tie.Need-returns
 unfolding w64
 returns c =
-    cached sound64 small64 (c .before .before .before .pre) (c .before .before .cached-index64 .ensures)
+    let a = c .before .before in
+    cached sound64 small64 (a .before .before .pre) (a .before .power-k64 .ensures) (a .power-index .ensures)
     (c .before .significand64 .ensures) (c .exponent64 .ensures)
 
 pub get-cached-power64-spec : {M : Type 1} → statement M
 get-cached-power64-spec =
     tie.close
-    (tie.spec cached-index64-requires significand64-requires exponent64-requires cast-t5 sub-t7 returns)
+    (tie.spec
+    power-k64-requires
+    power-index-requires
+    significand64-requires
+    exponent64-requires
+    cast-t4
+    sub-t7
+    returns)
