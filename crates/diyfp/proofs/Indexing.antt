@@ -12,20 +12,21 @@ use mir.Syntax.{w32}
 use mir.Val.{SFits}
 use Rattle.laws.proofs.Branches.{which}
 use Rattle.laws.proofs.Differences.{is-pos, crossed}
+use Rattle.laws.proofs.Differences as differences
 use Rattle.laws.proofs.Exponents.{ten-mono}
 use Rattle.laws.proofs.Signed as signed
-use Rattle.laws.proofs.Signed.{read, Is, Held, held, also, more, scaled, floored, at-least}
+use Rattle.laws.proofs.Signed.{read, Is, Held, held, unchanged, also, more, scaled, floored, at-least}
 use Rattle.laws.proofs.Tests.{Test, le, lt, _and_, Holds, upTo, every}
 use Rattle.rules.specs.Width as rules
 use Rattle.rules.specs.Width.{Width, off}
 use Rattle.rules.specs.Pattern.{allOnes}
-use Rattle.rules.specs.Power.{jRaised, index}
+use Rattle.rules.specs.Power.{jRaised, j, k}
 use Rattle.theorems.proofs.Widths.{Sound}
-use Rattle.theorems.proofs.Power.{Least, j-least, index-is}
-use Rattle.diyfp.specs.Powers.{Served}
+use Rattle.theorems.proofs.Power.{Least, j-least, j-inside}
+use Rattle.diyfp.specs.Powers.{Served, Indexable}
 use Rattle.diyfp.proofs.Small.{Small}
 
--- The code's steps, from an exponent e: less j, as a fraction 78913 / 2^18 of E + N - 3, then k, then the index.
+-- The code's steps from an exponent e to k: less j, as the fraction 78913 / 2^18 of e + N - 3.
 abbrev pub raised : Width → ℤ → ℤ
 raised w e = read e +ℤ pos (w .N - 3)
 
@@ -37,9 +38,6 @@ lessJ w e = shrZ (read (multiplied w e)) (2 ^ 18)
 
 abbrev pub kOf : Width → ℤ → ℤ
 kOf w e = pos (w .tens - 1) -ℤ read (lessJ w e)
-
-abbrev pub indexOf : Width → ℤ → ℤ
-indexOf w e = read (shrZ (read (kOf w e)) 8) +ℤ pos 1
 
 -- Less j, with m added, as a natural number: E is e with `off` added.
 abbrev quotient : Width → ℕ → ℕ → ℕ
@@ -67,19 +65,23 @@ pub record Handy (w : Width) (m : ℕ) : Type 0 where
   pub whole : off w * 78913 ≤ m * 2 ^ 18
   pub tested : T (upTo (test w m) (allOnes w + w .S + 1))
 
--- Every step is held, and the last is the table's index.
-pub record Indexed (w : Width) (e : ℤ) (E : ℕ) : Type 0 where
+-- Every step is held, and the last is k.
+pub record Steps (w : Width) (e : ℤ) (E : ℕ) : Type 0 where
   pub raises : SFits w32 (raised w e)
   pub multiplies : SFits w32 (multiplied w e)
   pub subtracts : SFits w32 (kOf w e)
-  pub adds : SFits w32 (indexOf w e)
-  pub natural : T (nonNeg (read (indexOf w e)))
-  pub small : natAbs (read (indexOf w e)) < 2 ^ 31
-  pub is : natAbs (read (indexOf w e)) ≡ index w E
+  pub is : read (kOf w e) ≡ k w E
 
 -- A served exponent is so under whatever number it is known by.
 pub most : {w : Width} {e : ℤ} → Served w e → (E : ℕ) → e ≡ subℕ E (off w) → E ≤ allOnes w + w .S
 most {w} s E p = omega (arith, s .most, crossed E (off w) (s .raised) (off w) (sym p ∙ s .exponent))
+
+-- k is the search's number less eight.
+k-raised : (w : Width) (E : ℕ) → 1 ≤ w .tens → Is (k w E) (jRaised w E) 8
+unfolding k j
+k-raised w E some =
+    let sum : Is (j w E +ℤ pos (w .tens - 1)) (jRaised w E + (w .tens - 1)) (w .tens + 7) = record { is = differences.more (jRaised w E) (w .tens + 7) (w .tens - 1) } in
+    also (jRaised w E) 8 sum (omega arith)
 
 module _ {w : Width} {q m : ℕ} (sound : Sound w q) (small : Small w) (handy : Handy w m) {e : ℤ} (E : ℕ) (p : Is e E (off w))
     (finite : E ≤ allOnes w + w .S) where
@@ -108,24 +110,25 @@ module _ {w : Width} {q m : ℕ} (sound : Sound w q) (small : Small w) (handy : 
   fourth =
       signed.apart (record { is = is-pos (w .tens - 1) (w .tens - 1) 0 (omega arith) }) (third .back) (omega (arith, j-is, small .sum, handy .few))
 
-  k-is : Is (read (kOf w e)) (jRaised w E) 8
-  k-is = also (jRaised w E) 8 (fourth .back) (omega (arith, j-is, sound .tens))
-
-  fifth : Held (indexOf w e) (jRaised w E / 8 + 1) 1
-  fifth = more 1 (held (floored 8 1 (lit< tt) (omega arith) k-is) (omega (arith, j-is, small .sum, handy .few)) .back) (omega (arith, j-is, small .sum, handy .few))
-
-  pub indexed : Indexed w e E
-  indexed =
-      let last : read (indexOf w e) ≡ pos (jRaised w E / 8) = at-least (fifth .back) (omega arith) ∙ ap pos (omega arith) in
+  pub steps : Steps w e E
+  steps =
       record {
         raises = first .fits;
         multiplies = second .fits;
         subtracts = fourth .fits;
-        adds = fifth .fits;
-        natural = rw last tt;
-        small = rw last (omega (arith, j-is, small .sum, handy .few));
-        is = rw last (sym (index-is w E (sound .tens)));
+        is = also (jRaised w E) 8 (fourth .back) (omega (arith, j-is, sound .tens)) .is ∙ sym (k-raised w E (sound .tens) .is);
       }
+
+-- k has an index, and is read as it was written.
+module _ {w : Width} {q : ℕ} (sound : Sound w q) (small : Small w) (E : ℕ) (finite : E ≤ allOnes w + w .S) where
+  few : jRaised w E < 2 ^ 13
+  few = omega (arith, j-inside w q sound E finite, small .sum)
+
+  pub k-indexable : Indexable (k w E)
+  k-indexable = record { raised = jRaised w E; is = k-raised w E (sound .tens) .is; few = few }
+
+  pub k-read : read (k w E) ≡ k w E
+  k-read = unchanged (k-raised w E (sound .tens)) (omega (arith, few))
 
 -- At each of the 279 exponents of 32 bits ..
 pub handy32 : Handy rules.w32 64
@@ -136,3 +139,40 @@ handy32 = record { few = lit≤ tt; whole = lit≤ tt; tested = tt }
 pub handy64 : Handy rules.w64 512
 unfolding rules.w64 off allOnes
 handy64 = record { few = lit≤ tt; whole = lit≤ tt; tested = tt }
+
+-- The steps from k to the index are held, and the division rounds down.
+pub record Floors (k : ℤ) : Type 0 where
+  pub adds : SFits w32 (read (shrZ (read k) 8) +ℤ pos 1)
+  pub natural : T (nonNeg (read (read (shrZ (read k) 8) +ℤ pos 1)))
+  pub small : natAbs (read (read (shrZ (read k) 8) +ℤ pos 1)) < 2 ^ 31
+  pub is : natAbs (read (read (shrZ (read k) 8) +ℤ pos 1)) ≡ natAbs (shrZ k 8 +ℤ pos 1)
+
+pub floors : {k : ℤ} → Indexable k → Floors k
+floors {k} p =
+    record {
+      adds = rw (own, down) (next .fits);
+      natural = rw (own, down, natural) tt;
+      small = rw (own, down, natural) (omega (arith, p .few));
+      is = rw (own, down) (ap natAbs (unchanged one (omega (arith, p .few))));
+    }
+  where
+    is : Is k (p .raised) 8
+    is = record { is = p .is }
+
+    own : read k ≡ k
+    own = unchanged is (omega (arith, p .few))
+
+    floor : Is (shrZ k 8) (p .raised / 8) 1
+    floor = floored 8 1 (lit< tt) (omega arith) is
+
+    down : read (shrZ k 8) ≡ shrZ k 8
+    down = unchanged floor (omega (arith, p .few))
+
+    one : Is (shrZ k 8 +ℤ pos 1) (p .raised / 8 + 1) 1
+    one = record { is = rw (floor .is) (differences.more (p .raised / 8) 1 1) }
+
+    next : Held (shrZ k 8 +ℤ pos 1) (p .raised / 8 + 1) 1
+    next = held one (omega (arith, p .few))
+
+    natural : read (shrZ k 8 +ℤ pos 1) ≡ pos (p .raised / 8)
+    natural = at-least (next .back) (omega arith) ∙ ap pos (omega arith)

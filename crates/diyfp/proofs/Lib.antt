@@ -7,3 +7,4 @@ pub mod Multiplying
 pub mod Slopes
 pub mod Indexing
 pub mod Caching
+pub mod Chaining

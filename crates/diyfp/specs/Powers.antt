@@ -1,6 +1,6 @@
 -- What the cached powers of ten are, in the rules' terms. Assumes nothing.
 use mathlib.Core.Path.{_≡_}
-use Prim.Native.Nat.{ℕ, _+_, _≤_}
+use Prim.Native.Nat.{ℕ, _+_, _^_, _≤_, _<_}
 use lib.IntN.{ℤ, negℤ, subℕ}
 use lib.ListN.{getD}
 use Rattle.rules.specs.Width.{Width, off}
@@ -12,6 +12,12 @@ pub record Served (w : Width) (e : ℤ) : Type 0 where
   pub raised : ℕ
   pub exponent : e ≡ subℕ raised (off w)
   pub most : raised ≤ allOnes w + w .S
+
+-- A number k that has an index: it is at least -8.
+pub record Indexable (k : ℤ) : Type 0 where
+  pub raised : ℕ
+  pub is : k ≡ subℕ raised 8
+  pub few : raised < 2 ^ 13
 
 -- The pair (f, e) is the table's entry for the exponent E, and stands for 10^-k.
 pub record Cached (w : Width) (E : ℕ) (f : ℕ) (e k : ℤ) : Type 0 where
