@@ -4,8 +4,7 @@ use mathlib.Core.Path.{_≡_, refl, sym, ap, ap₂, _∙_, subst}
 use Prim.Native.Nat.{ℕ, suc, _+_, _-_, _*_, _^_, _≤_, _<_}
 use native.Mathlib.Nat.{lt-of-lt-of-le, mul-le-mul-right}
 use native.Mathlib.Omega.{arith}
-use lib.IntN.{ℤ, negℤ, subℕ, _+ℤ_}
-use lib.Signed.{mag}
+use lib.IntN.{ℤ, natAbs, subℕ, _+ℤ_}
 use mir.Syntax.{w32}
 use mir.Val.{SFits}
 use Rattle.laws.specs.Puts.{Puts}
@@ -88,8 +87,8 @@ module _ {w : Width} {q : ℕ} (p : Printable w q) {m : Pair} (f : Finite w m) {
         let d = printed w q p m f in
         held (record { is = sum-is ∙ d .k-is }) (difference-near (d .up) (d .down) (rw (d .k-is) at (d .near)))
       where
-        difference-near : (a b : ℕ) → mag (subℕ a b) < 1000 → Apart a b
-        difference-near a b = difference.cases (λ z. mag z < 1000 → Apart a b) a b (λ l h. omega arith) (λ l h. omega arith)
+        difference-near : (a b : ℕ) → natAbs (subℕ a b) < 900 → Apart a b
+        difference-near a b = difference.cases (λ z. natAbs z < 900 → Apart a b) a b (λ l h. omega arith) (λ l h. omega arith)
 
     pub sum-fits : SFits w32 (read place +ℤ k)
     sum-fits = sum-held .fits

@@ -4,9 +4,10 @@ use mathlib.Core.Bool.{Bool, true, false, not, cond}
 use mathlib.Core.Path.{_≡_, sym, ap, _∙_}
 use Prim.Native.Nat.{ℕ, zero, suc, _+_, _-_, _*_, _/_, _≤_, _<_}
 use native.Mathlib.Nat.{add-zero, add-mul, add-mul-div-right, div-eq-of-lt-le, div-lt-iff-lt-mul, div-mul-le-self, lt-div-mul-add}
+use native.Mathlib.Nat.{le-refl}
 use native.Mathlib.Omega.{arith}
 use lib.Dec.{T, ltb, ltb→lt, nltb→le}
-use lib.IntN.{ℤ, pos, negsuc, negℤ, subℕ, _+ℤ_, _-ℤ_, _*ℤ_}
+use lib.IntN.{ℤ, pos, negsuc, negℤ, subℕ, _+ℤ_, _-ℤ_, _*ℤ_, natAbs}
 use lib.Signed.{mag, shrZ}
 
 cond-cases {ℓ} : {A : Type 0} (Q : A → Type ℓ) {x y : A} (t : Bool) → (T t → Q x) → (T (not t) → Q y) → Q (cond t x y)
@@ -100,3 +101,11 @@ floored a b n some =
 
     up : b * n ≤ a → a / n ≡ (a - b * n) / n + b
     up l = ap (λ (x : ℕ). x / n) (omega arith) ∙ add-mul-div-right (a - b * n) b some
+
+-- So does its distance from zero.
+pub size-bounded : (h a b : ℕ) → a < b + h → b < a + h → natAbs (subℕ a b) < h
+size-bounded h a b l r = cases (λ z. natAbs z < h) a b (λ m. omega arith) (λ m. omega arith)
+
+pub mag-size : (z : ℤ) → mag z ≤ natAbs z
+mag-size (pos n) = le-refl n
+mag-size (negsuc n) = omega arith

@@ -4,9 +4,8 @@ use mathlib.Core.Path.{_≡_, refl, sym, ap, _∙_}
 use Prim.Native.Nat.{ℕ, suc, _+_, _-_, _*_, _/_, _^_, _≤_, _<_}
 use native.Mathlib.Nat.{lt-of-mul-lt-mul-right, mul-le-mul-left, mul-le-mul-right, mul-lt-mul-of-pos-right, one-mul, pow-succ', div-lt-iff-lt-mul, le-div-iff-mul-le}
 use native.Mathlib.Omega.{arith}
-use lib.IntN.{ℤ, subℕ, _+ℤ_}
+use lib.IntN.{ℤ, natAbs, subℕ, _+ℤ_}
 use lib.Pow.{pow-add, pow-mono, pow-pos}
-use lib.Signed.{mag}
 use Rattle.laws.proofs.Branches.{which}
 use Rattle.laws.proofs.Differences as difference
 use Rattle.laws.proofs.Exponents.{lesser-exponent}
@@ -67,7 +66,7 @@ pub record Printed (w : Width) (q : ℕ) (m : Pair) : Type 0 where
   pub up : ℕ
   pub down : ℕ
   pub k-is : decimal w m .k ≡ subℕ up down
-  pub near : mag (decimal w m .k) < 1000
+  pub near : natAbs (decimal w m .k) < 900
   pub kk-least : down < up + decimal w m .len + 324
   -- the decimal is at least L and at most H, in units of 2^-x, and so strictly between the exact boundaries
   pub under-upper : decimal w m .digits * 10 ^ up * 2 ^ off w < (2 * m .f + 1) * 2 ^ (m .exp - 1) * 10 ^ down
@@ -117,8 +116,8 @@ module _ (w : Width) (q : ℕ) (p : Printable w q) (m : Pair) (h : Finite w m) w
       let low : f .down ≤ q = down-most b apart q (facts .relative) (omega (arith, facts .least-whole)) in
       let k-is : decimal w m .k ≡ subℕ (f .up + w .tens) (f .down + 8 * b .at) =
       ap (λ (z : ℤ). subℕ (f .up) (f .down) +ℤ z) (difference.minus (8 * b .at) (w .tens)) ∙ difference.add (f .up) (f .down) (w .tens) (8 * b .at) in
-      let near : mag (subℕ (f .up + w .tens) (f .down + 8 * b .at)) < 1000 =
-      difference.bounded 1000 (f .up + w .tens) (f .down + 8 * b .at) (omega (arith, p .low)) (omega (arith, facts .inside, p .high, p .few)) in
+      let near : natAbs (subℕ (f .up + w .tens) (f .down + 8 * b .at)) < 900 =
+      difference.size-bounded 900 (f .up + w .tens) (f .down + 8 * b .at) (omega (arith, p .low)) (omega (arith, facts .inside, p .high, p .few)) in
       let bounds = between b apart in
       record {
         some = count-pos (f .digits);

@@ -11,9 +11,8 @@ use lib.Dec.{T, eqb, eqb→eq, T-not}
 use lib.Ieee.{Format, round, ofBits, toBits}
 use lib.Ieee.Bits.{ofBits-toBits}
 use lib.Ieee.Fits.{eq→eqb, round-fits}
-use lib.IntN.{subℕ}
+use lib.IntN.{natAbs, subℕ}
 use lib.Pow.{pow-pos}
-use lib.Signed.{mag}
 use Rattle.laws.proofs.Branches.{either, which}
 use Rattle.laws.proofs.Differences as difference
 use Rattle.laws.proofs.Powers.{ten-pos}
@@ -80,8 +79,8 @@ module _ (w : Width) (q : ℕ) (p : Printable w q) where
       (by-length (decimal w m .len) (decimal w m .digits) (d .up) (d .down) (d .some) (omega (arith, d .few, p .few)) (d .fits)
       (near (d .up) (d .down) (rw (d .k-is) at (d .near))) (omega (arith, d .kk-least)))
     where
-      near : (up down : ℕ) → mag (subℕ up down) < 1000 → up ≤ down + 9000
-      near up down = difference.cases (λ z. mag z < 1000 → up ≤ down + 9000) up down (λ l h. omega arith) (λ l h. omega arith)
+      near : (up down : ℕ) → natAbs (subℕ up down) < 900 → up ≤ down + 9000
+      near up down = difference.cases (λ z. natAbs z < 900 → up ≤ down + 9000) up down (λ l h. omega arith) (λ l h. omega arith)
 
       by-length : (len digits up down : ℕ) → 0 < len → len ≤ 21 → digits < 10 ^ len → up ≤ down + 9000 → down ≤ up + len + 324 →
           Says (layout (numeral len digits) (subℕ up down)) digits up down

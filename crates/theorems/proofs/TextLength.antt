@@ -7,6 +7,7 @@ use native.Mathlib.Nat.{pos-of-ne-zero}
 use native.Mathlib.Omega.{arith}
 use lib.Dec.{T, eqb, eqb→eq, ltb, nltb→le, T-not}
 use lib.ListN.{length, length-append, length-drop}
+use Rattle.laws.proofs.Differences.{mag-size}
 use Rattle.laws.proofs.Branches.{either}
 use Rattle.rules.specs.Bytes.{bytes}
 use Rattle.rules.specs.Numbers.{numeral}
@@ -40,7 +41,7 @@ module _ (w : Width) (q : ℕ) (p : Printable w q) where
   layout-within m h =
       let d = printed w q p m h in
       let n = length-numeral (decimal w m .len) (decimal w m .digits) in
-      layout-length _ _ (omega (arith, d .some)) (omega (arith, d .few, p .few)) (d .near)
+      layout-length _ _ (omega (arith, d .some)) (omega (arith, d .few, p .few)) (omega (arith, d .near, mag-size (decimal w m .k)))
 
   -- A magnitude's text has 3 to 24 bytes.
   shown-within : (m : Pair) → (0 < m .f → Finite w m) → Within 24 (shown w m)
