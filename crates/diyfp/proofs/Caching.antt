@@ -1,5 +1,5 @@
 -- The entry at the index: it is in the table, and what is computed of it is held. Assumes nothing.
-use mathlib.Core.Path.{_≡_, sym, ap, subst, _∙_}
+use mathlib.Core.Path.{_≡_, sym, ap, _∙_}
 use Prim.Native.Nat.{ℕ, _+_, _*_, _%_, _^_, _≤_, _<_}
 use native.Mathlib.Nat.{mod-eq-of-lt, mul-comm}
 use native.Mathlib.Omega.{arith}

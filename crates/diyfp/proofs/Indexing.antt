@@ -6,7 +6,6 @@ use native.Mathlib.Nat.{le-antisymm, mul-le-mul-right}
 use native.Mathlib.Omega.{arith}
 use lib.Dec.{T, lit<, lit≤}
 use lib.IntN.{ℤ, pos, natAbs, subℕ, _+ℤ_, _-ℤ_, _*ℤ_}
-use lib.ListN.{length}
 use lib.Signed.{nonNeg, shrZ}
 use mir.Syntax.{w32}
 use mir.Val.{SFits}

@@ -1,18 +1,18 @@
 -- The product of two pairs: the exponents' sum, and the significands' product by halves. Assumes nothing.
-use mathlib.Core.Path.{_≡_, sym, ap, subst, _∙_}
+use mathlib.Core.Path.{_≡_, sym, _∙_}
 use Prim.Native.Nat.{ℕ, suc, _+_, _-_, _*_, _/_, _%_, _^_, _≤_, _<_}
-use native.Mathlib.Nat.{le-of-lt, lt-of-le-of-lt, mod-lt, mul-le-mul-left, mul-le-mul-right}
+use native.Mathlib.Nat.{le-of-lt, lt-of-le-of-lt, mul-le-mul-left, mul-le-mul-right}
 use native.Mathlib.Omega.{arith}
 use lib.Bits.{bitAnd, and-mask, mask-lt}
 use lib.Dec.{lit<}
-use lib.IntN.{ℤ, pos, negsuc, subℕ, _+ℤ_}
+use lib.IntN.{ℤ, pos, negsuc, _+ℤ_}
 use lib.Pow.{pow-pos, pow-add, shl-lt, shr-lt, split}
 use mir.Syntax.{w32}
 use mir.Val.{SFits}
 use Rattle.laws.proofs.Differences as differences
 use Rattle.laws.proofs.Differences.{is-pos, is-negsuc}
 use Rattle.laws.proofs.Powers.{two-halves}
-use Rattle.laws.proofs.Signed.{read, Is, Held, held, sum, more}
+use Rattle.laws.proofs.Signed.{read, Is, held, sum, more}
 use Rattle.diyfp.specs.Pairs.{Near}
 
 -- An exponent near zero, as a difference.

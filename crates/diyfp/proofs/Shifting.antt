@@ -16,7 +16,7 @@ use Rattle.laws.proofs.Exponents.{lesser-exponent}
 use Rattle.laws.proofs.Powers.{two-halves}
 use Rattle.laws.proofs.Signed.{read, Is, Held, Apart, held, less}
 use Rattle.rules.specs.Width.{Width, off}
-use Rattle.rules.specs.Pattern.{Pair, allOnes}
+use Rattle.rules.specs.Pattern.{Pair}
 use Rattle.rules.specs.Boundaries.{shifted}
 use Rattle.theorems.proofs.Boundaries.{Shifted, shifts, no-further}
 use Rattle.diyfp.specs.Pairs.{Stands, StandsIn, Becomes, Shiftable}

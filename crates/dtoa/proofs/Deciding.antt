@@ -1,16 +1,16 @@
 -- From the scaled numbers to a magnitude's decimal: digit generation may be called, and what it gives is the decimal. Assumes nothing.
 use mathlib.Core.List.{List}
-use mathlib.Core.Path.{_≡_, refl, sym, ap, ap₂, _∙_, subst}
-use Prim.Native.Nat.{ℕ, suc, _+_, _-_, _*_, _^_, _≤_, _<_}
-use native.Mathlib.Nat.{lt-of-lt-of-le, mul-le-mul-right}
+use mathlib.Core.Path.{_≡_, sym, ap, ap₂, _∙_, subst}
+use Prim.Native.Nat.{ℕ, _-_, _*_, _^_, _≤_, _<_}
+use native.Mathlib.Nat.{mul-le-mul-right}
 use native.Mathlib.Omega.{arith}
-use lib.IntN.{ℤ, natAbs, subℕ, _+ℤ_}
+use lib.IntN.{ℤ, subℕ, _+ℤ_}
 use mir.Syntax.{w32}
 use mir.Val.{SFits}
 use Rattle.laws.specs.Puts.{Puts}
 use Rattle.laws.proofs.Differences as difference
 use Rattle.laws.proofs.Exponents.{ten-mono}
-use Rattle.laws.proofs.Signed.{Is, Held, Apart, read, held, unchanged}
+use Rattle.laws.proofs.Signed.{Held, read, held, unchanged, small-apart}
 use Rattle.rules.specs.Numbers.{count, numeral}
 use Rattle.rules.specs.Width.{Width}
 use Rattle.rules.specs.Pattern.{Pair}
@@ -85,10 +85,7 @@ module _ {w : Width} {q : ℕ} (p : Printable w q) {m : Pair} (f : Finite w m) {
     sum-held : Held (read place +ℤ k) (printed w q p m f .up) (printed w q p m f .down)
     sum-held =
         let d = printed w q p m f in
-        held (record { is = sum-is ∙ d .k-is }) (difference-near (d .up) (d .down) (rw (d .k-is) at (d .near)))
-      where
-        difference-near : (a b : ℕ) → natAbs (subℕ a b) < 900 → Apart a b
-        difference-near a b = difference.cases (λ z. natAbs z < 900 → Apart a b) a b (λ l h. omega arith) (λ l h. omega arith)
+        held (record { is = sum-is ∙ d .k-is }) (small-apart (d .up) (d .down) (rw (d .k-is) at (d .near)))
 
     pub sum-fits : SFits w32 (read place +ℤ k)
     sum-fits = sum-held .fits

@@ -11,3 +11,10 @@ pub mod Deciding
 pub mod Cut
 pub mod Texts
 pub mod Ruled
+pub mod Masks
+pub mod Spelling
+pub mod Showing
+pub mod Outcomes
+pub mod Unique
+pub mod Idle
+pub mod Calls

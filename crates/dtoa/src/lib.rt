@@ -1,5 +1,67 @@
-// Floats as text: the digits, and how they are laid out.
+// Floats as text: 32- and 64-bit patterns printed into a lent buffer, as the Rust crate dtoa prints them.
+ghost use Rattle.rules.specs.Width.{w32, w64};
+ghost use Rattle.rules.specs.Answer.{every, finiteOnly};
+ghost use Rattle.dtoa.specs.Meets.{Meets};
+
+mod bits;
 mod digits;
 mod grisu;
 mod layout;
 mod put;
+mod text;
+
+// How a call ended: printed, with the length of the text; or refused, with the buffer as it was.
+pub enum Outcome {
+    Printed(usize),
+    TooShort,
+    NotFinite,
+}
+
+// The fewest bytes that a lent buffer has to have.
+const ROOM: usize = 25;
+
+// Prints any pattern of 32 bits.
+pub fn format32(bits: u32, buf: &mut [u8]) -> Outcome
+    ensures { λ r. ⌜ Meets every w32 bits (now (buf .entry)) r (now (buf .exit)) ⌝ }
+{
+    if buf.len() < ROOM {
+        return Outcome::TooShort;
+    }
+    Outcome::Printed(text::print32(bits, buf))
+}
+
+// Prints any pattern of 64 bits.
+pub fn format64(bits: u64, buf: &mut [u8]) -> Outcome
+    ensures { λ r. ⌜ Meets every w64 bits (now (buf .entry)) r (now (buf .exit)) ⌝ }
+{
+    if buf.len() < ROOM {
+        return Outcome::TooShort;
+    }
+    Outcome::Printed(text::print64(bits, buf))
+}
+
+// Prints a finite pattern of 32 bits, and refuses NaN and infinity.
+pub fn format_finite32(bits: u32, buf: &mut [u8]) -> Outcome
+    ensures { λ r. ⌜ Meets finiteOnly w32 bits (now (buf .entry)) r (now (buf .exit)) ⌝ }
+{
+    if buf.len() < ROOM {
+        return Outcome::TooShort;
+    }
+    if bits::is_special32(bits) {
+        return Outcome::NotFinite;
+    }
+    Outcome::Printed(text::print32(bits, buf))
+}
+
+// Prints a finite pattern of 64 bits, and refuses NaN and infinity.
+pub fn format_finite64(bits: u64, buf: &mut [u8]) -> Outcome
+    ensures { λ r. ⌜ Meets finiteOnly w64 bits (now (buf .entry)) r (now (buf .exit)) ⌝ }
+{
+    if buf.len() < ROOM {
+        return Outcome::TooShort;
+    }
+    if bits::is_special64(bits) {
+        return Outcome::NotFinite;
+    }
+    Outcome::Printed(text::print64(bits, buf))
+}

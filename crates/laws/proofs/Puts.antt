@@ -1,5 +1,5 @@
 -- How elements put into a list one after the other, or one before the other, are put at once. Assumes nothing.
-use mathlib.Core.Path.{_≡_, refl, sym, ap, _∙_}
+use mathlib.Core.Path.{_≡_, refl, sym, ap, _∙_, subst}
 use mathlib.Core.List.{List, [], _∷_, _++_, append-assoc, append-nil}
 use Prim.Native.Nat.{ℕ, suc, _+_, _-_, _≤_, _<_}
 use native.Mathlib.Nat.{add-assoc, add-zero, zero-add}
@@ -155,3 +155,16 @@ module _ {A : Type 0} (out : List A) (end by : ℕ) (room : end + by ≤ length 
 pub moved-end : {A : Type 0} {out last : List A} {next : ℕ} (from end by : ℕ) → from ≤ end → end ≤ length out →
     Puts (slice from end out) out (from + by) last next → next ≡ end + by
 moved-end {A} {out} from end by ordered within p = omega (arith, p .behind, length-slice from end out within)
+
+-- Elements put over others that were put from the start, and at least as many, are put over what stood there before.
+pub over : {A : Type 0} {s t out mid last : List A} {m next : ℕ} → Puts s out 0 mid m → Puts t mid 0 last next → length s ≤ length t →
+    Puts t out 0 last next
+unfolding placed
+over {A} {s} {t} {out} {mid} {last} p q more =
+    let behind : drop (length s) mid ≡ drop (length s) out =
+    ap (drop (length s)) (p .elements)
+    ∙ subst (λ (n : ℕ). drop n (placed out 0 s) ≡ drop n out) (zero-add (length s)) (drop-placed out 0 s (p .room)) in
+    let far : length s + (length t - length s) ≡ length t = omega arith in
+    let same : drop (length t) mid ≡ drop (length t) out =
+    rw (← far, ← drop-drop (length t - length s) (length s) mid, ← drop-drop (length t - length s) (length s) out, behind) in
+    record { room = omega (arith, kept p, q .room); behind = q .behind; elements = rw (q .elements, zero-add, same) }

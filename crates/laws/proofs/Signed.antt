@@ -3,7 +3,7 @@ use mathlib.Core.Path.{_≡_, sym, subst, _∙_}
 use Prim.Native.Nat.{ℕ, _+_, _-_, _*_, _/_, _^_, _≤_, _<_}
 use native.Mathlib.Nat.{add-zero}
 use native.Mathlib.Omega.{arith}
-use lib.IntN.{ℤ, pos, subℕ, _+ℤ_, _-ℤ_, _*ℤ_}
+use lib.IntN.{ℤ, pos, natAbs, subℕ, _+ℤ_, _-ℤ_, _*ℤ_}
 use lib.Signed.{mag, shrZ}
 use mir.Facts.{toZ-ofZ, toZ-pos}
 use mir.Syntax.{w32}
@@ -32,6 +32,10 @@ pub record Held (z : ℤ) (a b : ℕ) : Type 0 where
 pub record Apart (a b : ℕ) : Type 0 where
   pub above : a < b + 2 ^ 31
   pub under : b ≤ a + 2 ^ 31
+
+-- They are where a - b is small.
+pub small-apart : (a b : ℕ) → natAbs (subℕ a b) < 900 → Apart a b
+small-apart a b = differences.cases (λ z. natAbs z < 900 → Apart a b) a b (λ l h. omega arith) (λ l h. omega arith)
 
 pub held : {z : ℤ} {a b : ℕ} → Is z a b → Apart a b → Held z a b
 held {z} {a} {b} p apart =

@@ -23,7 +23,7 @@ use Rattle.rules.specs.Pattern.{Pair, negative, biased, allOnes, special, magni
 use Rattle.rules.specs.Digits.{decimal}
 use Rattle.rules.specs.Layout.{layout}
 use Rattle.rules.specs.Text.{shown, signed, text}
-use Rattle.rules.specs.Reading.{number, exact, over, isDigit, extended, decimalsMore, decimalsFirst, wholeMore, unsigned, infinity, top, low, IsNearest, unbounded, nearest, withSign, ReadsAs}
+use Rattle.rules.specs.Reading.{number, exact, over, isDigit, extended, decimalsMore, decimalsFirst, wholeMore, unsigned, infinity, top, IsNearest, unbounded, nearest, withSign, ReadsAs}
 use Rattle.rules.specs.Midpoints.{midpointBelow, midpointAbove, Between}
 use Rattle.theorems.proofs.Boundaries.{Finite}
 use Rattle.theorems.proofs.Scale.{finite}
@@ -31,7 +31,7 @@ use Rattle.theorems.proofs.Printable.{Printable}
 use Rattle.theorems.proofs.Decimal.{printed}
 use Rattle.theorems.proofs.LayoutReads.{Says, layout-says}
 use Rattle.theorems.proofs.Units.{unitsOf, units-rise}
-use Rattle.theorems.proofs.Worth.{bare, at, no-sign, off-units, worth-bare, significand-small}
+use Rattle.theorems.proofs.Worth.{bare, at, bare-zero, no-sign, off-units, worth-bare, significand-small}
 use Rattle.theorems.proofs.Signs.{rejoined}
 use Rattle.theorems.proofs.Nearest.{only-nearest}
 use Rattle.theorems.proofs.Midpoints.{between-midpoints, below-first, up-to-top}
@@ -63,7 +63,7 @@ unfolding text
 finite-text w v ordinary =
     either (λ (t : List ℕ). t ≡ signed w v (shown w (magnitude w v))) (special w v) (λ s. absurd (T-not (special w v) ordinary s)) (λ s. refl)
 
-laid-text : (w : Width) (m : Pair) → 0 < m .f → shown w m ≡ layout (numeral (decimal w m .len) (decimal w m .digits)) (decimal w m .k)
+pub laid-text : (w : Width) (m : Pair) → 0 < m .f → shown w m ≡ layout (numeral (decimal w m .len) (decimal w m .digits)) (decimal w m .k)
 unfolding shown
 laid-text w m some =
     either (λ (t : List ℕ). t ≡ layout (numeral (decimal w m .len) (decimal w m .digits)) (decimal w m .k)) (eqb (m .f) 0)
@@ -156,13 +156,6 @@ module _ (w : Width) (q : ℕ) (p : Printable w q) where
     unfolding shown
     zero-text none = either (λ (t : List ℕ). t ≡ bytes "0.0") (eqb (magnitude w v .f) 0) (λ z. refl) (λ z. absurd (T-not (eqb (magnitude w v .f) 0) z (eq→eqb none)))
 
-    bare-zero : magnitude w v .f ≡ 0 → bare w v ≡ 0
-    bare-zero none =
-        let a = at w v in
-        let s = a .spot in
-        ⊎-elim (λ up. absurd (omega (arith, s .hidden up, a .f-is, pow-pos (w .S))))
-        (λ low. let k : s .k ≡ 0 = omega arith in omega (arith, s .is, a .f-is, ap (λ (x : ℕ). x * 2 ^ w .S) k)) (which 0 (s .k))
-
     read : Read
     read = by-magnitude (which 0 (magnitude w v .f))
       where
@@ -177,7 +170,7 @@ module _ (w : Width) (q : ℕ) (p : Printable w q) where
               d = 10;
               says = ap exact (finite-text w v ordinary ∙ ap (signed w v) (zero-text zero-is)) ∙ signed-says w v (bytes "0.0") zero-says;
               positive = omega arith;
-              reads = below-first w (p .readable) 0 10 (omega arith) (omega (arith, units-rise (w .S) 0)) ∙ sym (bare-zero zero-is);
+              reads = below-first w (p .readable) 0 10 (omega arith) (omega (arith, units-rise (w .S) 0)) ∙ sym (bare-zero w v zero-is);
             }
 
     top-holds : bare w v ≤ top w

@@ -1,12 +1,13 @@
 -- A pattern's worth is its units times a constant, and so is how far it is from a fraction. Assumes nothing.
 use mathlib.Core.Path.{_≡_, refl, sym, ap, _∙_}
+use mathlib.Core.Logic.{⊎-elim}
 use Prim.Native.Nat.{ℕ, suc, _+_, _-_, _*_, _%_, _^_, _≤_, _<_}
 use native.Mathlib.Nat.{mod-lt, mod-eq-of-lt, pos-of-ne-zero, mul-assoc, mul-add, mul-sub}
 use native.Mathlib.Omega.{arith}
 use lib.Dec.{eqb, eqb→eq, T-not}
 use lib.Ieee.Fits.{eq→eqb}
 use lib.Pow.{pow-pos, pow-add, mod-pow-add, high-ones}
-use Rattle.laws.proofs.Branches.{either}
+use Rattle.laws.proofs.Branches.{either, which}
 use Rattle.laws.proofs.Powers.{monomials}
 use Rattle.rules.specs.Width.{Width, off}
 use Rattle.rules.specs.Pattern.{Pair, biased, significand, allOnes, magnitude}
@@ -55,6 +56,16 @@ module _ (w : Width) (v : ℕ) where
     where
       small : significand w v < 2 ^ w .S
       small = significand-small w v
+
+  -- A magnitude is zero where the pattern without its sign is, and nowhere else.
+  pub bare-zero : magnitude w v .f ≡ 0 → bare w v ≡ 0
+  bare-zero none =
+      let s = at .spot in
+      ⊎-elim (λ up. absurd (omega (arith, s .hidden up, at .f-is, pow-pos (w .S))))
+      (λ low. let k : s .k ≡ 0 = omega arith in omega (arith, s .is, at .f-is, ap (λ (x : ℕ). x * 2 ^ w .S) k)) (which 0 (s .k))
+
+  pub zero-bare : bare w v ≡ 0 → magnitude w v .f ≡ 0
+  zero-bare none = omega (arith, at .spot .is, at .f-is)
 
   -- What a pattern is worth, as a number over 2^off, is its units times 2^(N + 1).
   pub worth-bare : worth w v ≡ unitsOf (w .S) (bare w v) * 2 ^ (w .N + 1)

@@ -8,7 +8,7 @@ use Rattle.theorems.proofs.Widths.{sound64}
 use Rattle.diyfp.specs.Pairs.{Stands}
 use Rattle.diyfp.specs.Powers.{Cached}
 use Rattle.diyfp.proofs.Small.{small64}
-use Rattle.dtoa.proofs.Scaling.{E, upper-near, lower-near, value-near, power-near, upper-read, serves, shiftable, Products, products, one-less, one-more, ordered, shift-fits, shift-natural, shift-small, scales-to}
+use Rattle.dtoa.proofs.Scaling.{upper-near, lower-near, value-near, power-near, upper-read, serves, shiftable, Products, products, one-less, one-more, ordered, shift-fits, shift-natural, shift-small, scales-to}
 use Rattle.dtoa.proofs.grisu.scale64.Statement.{statement}
 use Rattle.dtoa.proofs.grisu.scale64.Tie as tie
 
