@@ -1,7 +1,7 @@
 -- `dtoa::digits::closer` meets its contract: each early answer settles the tests of the rule. Assumes nothing.
+use native.Mathlib.Omega.{arith}
 use borrow.Author.Tests.{le-ltb, lt-ltb, le-leb, lt-leb}
 use Rattle.rules.specs.Digits.{closer}
-use borrow.Author.Needs.{needs}
 use Rattle.dtoa.proofs.digits.closer.Statement.{statement}
 use Rattle.dtoa.proofs.digits.closer.Tie as tie
 
@@ -10,21 +10,21 @@ unfolding closer
 returns c = simp (le-ltb _ _ (c .if1 .taken))
 
 sub-if2 : tie.Need-sub-if2
-sub-if2 c = search needs
+sub-if2 c = omega arith
 
 returns-2 : tie.Need-returns-2
 unfolding closer
 returns-2 c = simp (lt-ltb _ _ (c .before .if1 .left), lt-leb _ _ (c .if2 .taken))
 
 add-next : tie.Need-add-next
-add-next c = search needs
+add-next c = omega arith
 
 returns-3 : tie.Need-returns-3
 unfolding closer
 returns-3 c = simp (lt-ltb _ _ (c .before .before .if1 .left), le-leb _ _ (c .before .if2 .left), lt-ltb _ _ (c .if3 .taken))
 
 sub-result : tie.Need-sub-result
-sub-result c = search needs
+sub-result c = omega arith
 
 returns-4 : tie.Need-returns-4
 unfolding closer

@@ -1,4 +1,5 @@
 -- `dtoa::digits::digit_gen64` meets its contract. Assumes nothing.
+use native.Mathlib.Omega.{arith}
 use mir.Facts.{toZ-ofZ}
 use mir.Syntax.{w32}
 use mir.Val.{SFits}
@@ -8,7 +9,7 @@ use Rattle.dtoa.proofs.digits.digit_gen64.Statement.{statement}
 use Rattle.dtoa.proofs.digits.digit_gen64.Tie as tie
 
 first-place-requires : tie.Need-first-place-requires
-first-place-requires c κs = search needs
+first-place-requires c κs = omega arith
 
 -- Where the first place is found.
 abbrev Found : Type 0
@@ -26,7 +27,7 @@ sub-last : tie.Need-sub-last
 sub-last c = let a = c .before .before .before .before in some-digit (start a .pre) (a .first-place .ensures)
 
 slice-read-buf : tie.Need-slice-read-buf
-slice-read-buf c = search needs
+slice-read-buf c = omega arith
 
 sub-buf : tie.Need-sub-buf
 sub-buf c =
@@ -34,7 +35,7 @@ sub-buf c =
     below-byte (start a .pre) (a .first-place .ensures) (c .before .before .grisu-round .ensures)
 
 slice-write-buf : tie.Need-slice-write-buf
-slice-write-buf c = search needs
+slice-write-buf c = omega arith
 
 same-length : tie.Need-same-length
 same-length c = search needs
@@ -42,7 +43,7 @@ same-length c = search needs
 returns : tie.Need-returns
 returns c =
     let a = c .before .before .before .before .before .before in
-    let held : SFits w32 (a .first-place .result .place) = search needs in
+    let held : SFits w32 (a .first-place .result .place) = omega arith in
     rw (toZ-ofZ held) (generated (start a .pre) (a .first-place .ensures) (c .before .before .before .grisu-round .ensures))
 
 pub digit-gen64-spec : {M : Type 1} → statement M

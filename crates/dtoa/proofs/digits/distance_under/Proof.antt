@@ -1,12 +1,12 @@
 -- `dtoa::digits::distance_under` meets its contract. Assumes nothing.
+use native.Mathlib.Omega.{arith}
 use borrow.Author.Tests.{le-leb, lt-leb}
 use Rattle.dtoa.specs.Digits.{distanceUnder}
-use borrow.Author.Needs.{needs}
 use Rattle.dtoa.proofs.digits.distance_under.Statement.{statement}
 use Rattle.dtoa.proofs.digits.distance_under.Tie as tie
 
 pow10-requires : tie.Need-pow10-requires
-pow10-requires c κs = search needs
+pow10-requires c κs = omega arith
 
 mul-result : tie.Need-mul-result
 mul-result c = rw (c .pow10 .ensures) (record { fits = c .before .before .pre })

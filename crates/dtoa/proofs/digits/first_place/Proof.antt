@@ -8,7 +8,6 @@ use mir.Syntax.{w32}
 use Rattle.laws.proofs.Puts.{kept}
 use Rattle.dtoa.proofs.First.{below-nine, unit-most, found-above, ready-under, distance-small, found-under}
 use Rattle.dtoa.proofs.Signs.{minus, minus-fits}
-use borrow.Author.Needs.{needs}
 use Rattle.dtoa.proofs.digits.first_place.Statement.{statement}
 use Rattle.dtoa.proofs.digits.first_place.Tie as tie
 
@@ -20,7 +19,7 @@ abbrev start : Above → tie.Start
 start c = c .before .before .before
 
 places-above-requires : tie.Need-places-above-requires
-places-above-requires c κs = search needs
+places-above-requires c κs = omega arith
 
 pow10-requires : tie.Need-pow10-requires
 pow10-requires c κs = let a = c .before .before .before in below-nine (start a .pre) (a .places-above .ensures) (c .if1 .taken)
@@ -38,10 +37,10 @@ cast-place c =
     record { sfits = omega (arith, below-nine (start a .pre) (a .places-above .ensures) (c .before .before .if1 .taken)) }
 
 sub-t18 : tie.Need-sub-t18
-sub-t18 c = search needs
+sub-t18 c = omega arith
 
 same-length : tie.Need-same-length
-same-length c = search needs
+same-length c = omega arith
 
 returns : tie.Need-returns
 returns c =
@@ -57,7 +56,7 @@ places-under-requires c κs =
     rw (kept (a .places-above .ensures .tried .text)) (ready-under (start a .pre) (a .places-above .ensures) (c .before .if1 .left))
 
 sub-distance-under : tie.Need-sub-distance-under
-sub-distance-under c = search needs
+sub-distance-under c = omega arith
 
 -- Where those below zero stand too.
 abbrev Under : Type 0
@@ -77,7 +76,7 @@ distance-under-requires c κs =
     )
 
 cast-place-2 : tie.Need-cast-place-2
-cast-place-2 c = search needs
+cast-place-2 c = omega arith
 
 near : (b : Under) → b .places-under .result .down < 2 ^ 31
 near b = omega (arith, b .places-under .ensures .tried .near, start (above b) .pre .shift)
@@ -86,10 +85,10 @@ sub-place : tie.Need-sub-place
 sub-place c = let b = c .before .before .before .before in rw (minus _ (near b)) (minus-fits _ (near b))
 
 shifted-requires-2 : tie.Need-shifted-requires-2
-shifted-requires-2 c κs = search needs
+shifted-requires-2 c κs = omega arith
 
 same-length-2 : tie.Need-same-length-2
-same-length-2 c = search needs
+same-length-2 c = omega arith
 
 returns-2 : tie.Need-returns-2
 returns-2 c =

@@ -6,12 +6,11 @@ use native.Mathlib.Omega.{arith}
 use lib.Bits.{and-mask}
 use lib.Dec.{lit<}
 use lib.Pow.{pow-pos, shl-exact}
-use borrow.Author.Needs.{needs}
 use Rattle.dtoa.proofs.digits.low_bits.Statement.{statement}
 use Rattle.dtoa.proofs.digits.low_bits.Tie as tie
 
 shl-result : tie.Need-shl-result
-shl-result c = search needs
+shl-result c = omega arith
 
 -- `1 << x` is 2^x.
 one-shifted : (x : ℕ) → x ≤ 60 → 1 * 2 ^ x % 2 ^ 64 ≡ 2 ^ x

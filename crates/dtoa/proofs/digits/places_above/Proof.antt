@@ -1,7 +1,6 @@
 -- `dtoa::digits::places_above` meets its contract. Assumes nothing.
 use mathlib.Core.Path.{_≡_, _∙_}
 use Prim.Native.Nat.{suc, _-_}
-use borrow.Author.Needs.{needs}
 use native.Mathlib.Omega.{arith}
 use Rattle.laws.proofs.Puts.{kept}
 use Rattle.dtoa.proofs.Above.{Turn, whole-less, at-most-nine, first-turn, front-less, rest-most, place-tried, next-turn}
@@ -57,7 +56,7 @@ digit-requires c κs =
     (omega (arith, so .tried .sum, at-most-nine pre, pre .nine, kept (so .tried .text)), front-less pre so (c .before .split-digits .ensures))
 
 cast-shifted : tie.Need-cast-shifted Inv-loop μ-loop
-cast-shifted c = search needs
+cast-shifted c = omega arith
 
 shifted-requires : tie.Need-shifted-requires Inv-loop μ-loop
 shifted-requires c κs =

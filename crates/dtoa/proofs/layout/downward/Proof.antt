@@ -13,7 +13,6 @@ use Rattle.rules.specs.Bytes.{bytes}
 use Rattle.dtoa.proofs.Ruled as ruled
 use Rattle.dtoa.proofs.Signs.{minus, minus-fits}
 use Rattle.dtoa.proofs.Texts.{digits-long}
-use borrow.Author.Needs.{needs}
 use Rattle.dtoa.proofs.layout.downward.Statement.{statement}
 use Rattle.dtoa.proofs.layout.downward.Tie as tie
 
@@ -38,13 +37,13 @@ exponent : (c : tie.Else3) → toZ w32 (ofZ w32 (pos 0 -ℤ toZ w32 (zeros (star
 exponent c = rw (minus _ (near c), toZ-ofZ (minus-fits _ (near c))) (sym (is-negsuc (zeros (start c)) 0 (zeros (start c) + 1) (omega arith)))
 
 sub-inner : tie.Need-sub-inner
-sub-inner c = search needs
+sub-inner c = omega arith
 
 inner-requires : tie.Need-inner-requires
-inner-requires c κs = search needs
+inner-requires c κs = omega arith
 
 same-length : tie.Need-same-length
-same-length c = search needs
+same-length c = omega arith
 
 returns : tie.Need-returns
 returns c =
@@ -54,10 +53,10 @@ returns c =
     (c .before .before .inner .ensures)
 
 small-requires : tie.Need-small-requires
-small-requires c κs = search needs
+small-requires c κs = omega arith
 
 same-length-2 : tie.Need-same-length-2
-same-length-2 c = search needs
+same-length-2 c = omega arith
 
 returns-2 : tie.Need-returns-2
 returns-2 c =
@@ -67,13 +66,13 @@ returns-2 c =
     (c .before .before .small .ensures)
 
 byte-requires : tie.Need-byte-requires
-byte-requires c κs = search needs
+byte-requires c κs = omega arith
 
 put-point-zero-requires : tie.Need-put-point-zero-requires
-put-point-zero-requires c κs = search needs
+put-point-zero-requires c κs = omega arith
 
 same-length-3 : tie.Need-same-length-3
-same-length-3 c = search needs
+same-length-3 c = omega arith
 
 returns-3 : tie.Need-returns-3
 unfolding bytes
@@ -85,10 +84,10 @@ returns-3 c =
     (then (zero .byte .ensures) (c .before .before .put-point-zero .ensures))
 
 add-scientific : tie.Need-add-scientific
-add-scientific c = search needs
+add-scientific c = omega arith
 
 cast-scientific : tie.Need-cast-scientific
-cast-scientific c = search needs
+cast-scientific c = omega arith
 
 sub-scientific : tie.Need-sub-scientific
 sub-scientific c = let test = c .before in rw (minus _ (near test)) (minus-fits _ (near test))
@@ -99,7 +98,7 @@ scientific-requires c κs =
     (start test .pre .0, rw (exponent test) (omega arith))
 
 same-length-4 : tie.Need-same-length-4
-same-length-4 c = search needs
+same-length-4 c = omega arith
 
 returns-4 : tie.Need-returns-4
 returns-4 c =

@@ -1,20 +1,20 @@
 -- `dtoa::layout::inner` meets its contract. Assumes nothing.
+use native.Mathlib.Omega.{arith}
 use Rattle.dtoa.proofs.Texts.{inner-text}
-use borrow.Author.Needs.{needs}
 use Rattle.dtoa.proofs.layout.inner.Statement.{statement}
 use Rattle.dtoa.proofs.layout.inner.Tie as tie
 
 moved-requires : tie.Need-moved-requires
-moved-requires c κs = search needs
+moved-requires c κs = omega arith
 
 byte-requires : tie.Need-byte-requires
-byte-requires c κs = search needs
+byte-requires c κs = omega arith
 
 cut-requires : tie.Need-cut-requires
-cut-requires c κs = search needs
+cut-requires c κs = omega arith
 
 same-length : tie.Need-same-length
-same-length c = search needs
+same-length c = omega arith
 
 returns : tie.Need-returns
 returns c =

@@ -8,7 +8,6 @@ use mir.Facts.{toZ-ofZ}
 use mir.Syntax.{w32}
 use mir.Val.{ofZ, toZ}
 use Rattle.dtoa.proofs.Signs.{away, is-minus, not-below}
-use borrow.Author.Needs.{needs}
 use Rattle.dtoa.proofs.layout.prettify.Statement.{statement}
 use Rattle.dtoa.proofs.layout.prettify.Tie as tie
 
@@ -26,7 +25,7 @@ magnitude-requires : tie.Need-magnitude-requires
 magnitude-requires c κs = rw (toZ-ofZ (c .before .fits .k)) (omega arith)
 
 cast-n : tie.Need-cast-n
-cast-n c = search needs
+cast-n c = omega arith
 
 downward-requires : tie.Need-downward-requires
 downward-requires c κs =
@@ -34,7 +33,7 @@ downward-requires c κs =
     (test .before .before .before .pre .0, omega (arith, size (test .before), away (test .before .before .before .args .k) (below test)))
 
 same-length : tie.Need-same-length
-same-length c = search needs
+same-length c = omega arith
 
 returns : tie.Need-returns
 returns c =
@@ -49,7 +48,7 @@ upward-requires c κs =
     (test .before .before .before .pre .0, omega (arith, size (test .before)))
 
 same-length-2 : tie.Need-same-length-2
-same-length-2 c = search needs
+same-length-2 c = omega arith
 
 returns-2 : tie.Need-returns-2
 returns-2 c =

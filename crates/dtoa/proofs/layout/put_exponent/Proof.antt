@@ -7,25 +7,25 @@ use Rattle.dtoa.proofs.layout.put_exponent.Statement.{statement}
 use Rattle.dtoa.proofs.layout.put_exponent.Tie as tie
 
 byte-requires : tie.Need-byte-requires
-byte-requires c κs = search needs
+byte-requires c κs = omega arith
 
 sub-write-exponent : tie.Need-sub-write-exponent
-sub-write-exponent c = search needs
+sub-write-exponent c = omega arith
 
 part-write-exponent-start : tie.Need-part-write-exponent-start
-part-write-exponent-start c = search needs
+part-write-exponent-start c = omega arith
 
 part-write-exponent-end : tie.Need-part-write-exponent-end
-part-write-exponent-end c = search needs
+part-write-exponent-end c = omega arith
 
 write-exponent-requires : tie.Need-write-exponent-requires
 write-exponent-requires c κs = search needs
 
 add-result : tie.Need-add-result
-add-result c = search needs
+add-result c = omega arith
 
 same-length : tie.Need-same-length
-same-length c = search needs
+same-length c = omega arith
 
 returns : tie.Need-returns
 returns c =

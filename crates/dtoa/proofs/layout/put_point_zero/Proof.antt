@@ -1,18 +1,18 @@
 -- `dtoa::layout::put_point_zero` meets its contract. Assumes nothing.
+use native.Mathlib.Omega.{arith}
 use Rattle.laws.proofs.Puts.{then}
 use Rattle.rules.specs.Bytes.{bytes}
-use borrow.Author.Needs.{needs}
 use Rattle.dtoa.proofs.layout.put_point_zero.Statement.{statement}
 use Rattle.dtoa.proofs.layout.put_point_zero.Tie as tie
 
 byte-requires : tie.Need-byte-requires
-byte-requires c κs = search needs
+byte-requires c κs = omega arith
 
 byte-requires-2 : tie.Need-byte-requires-2
-byte-requires-2 c κs = search needs
+byte-requires-2 c κs = omega arith
 
 same-length : tie.Need-same-length
-same-length c = search needs
+same-length c = omega arith
 
 returns : tie.Need-returns
 unfolding bytes

@@ -11,7 +11,7 @@ put-exponent-requires : tie.Need-put-exponent-requires
 put-exponent-requires c κs = search needs
 
 same-length : tie.Need-same-length
-same-length c = search needs
+same-length c = omega arith
 
 returns : tie.Need-returns
 returns c =
@@ -21,10 +21,10 @@ returns c =
     one-scientific _ _ (start .pre .0) _ (test .if1 .taken) (rw e-is at (c .before .before .put-exponent .ensures))
 
 moved-requires : tie.Need-moved-requires
-moved-requires c κs = search needs
+moved-requires c κs = omega arith
 
 byte-requires : tie.Need-byte-requires
-byte-requires c κs = search needs
+byte-requires c κs = omega arith
 
 put-exponent-requires-2 : tie.Need-put-exponent-requires-2
 put-exponent-requires-2 c κs =
@@ -36,7 +36,7 @@ put-exponent-requires-2 c κs =
     )
 
 same-length-2 : tie.Need-same-length-2
-same-length-2 c = search needs
+same-length-2 c = omega arith
 
 returns-2 : tie.Need-returns-2
 returns-2 c =

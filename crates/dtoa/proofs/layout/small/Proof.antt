@@ -1,29 +1,29 @@
 -- `dtoa::layout::small` meets its contract. Assumes nothing.
+use native.Mathlib.Omega.{arith}
 use Rattle.dtoa.proofs.Texts.{small-text}
-use borrow.Author.Needs.{needs}
 use Rattle.dtoa.proofs.layout.small.Statement.{statement}
 use Rattle.dtoa.proofs.layout.small.Tie as tie
 
 add-moved : tie.Need-add-moved
-add-moved c = search needs
+add-moved c = omega arith
 
 moved-requires : tie.Need-moved-requires
-moved-requires c κs = search needs
+moved-requires c κs = omega arith
 
 byte-requires : tie.Need-byte-requires
-byte-requires c κs = search needs
+byte-requires c κs = omega arith
 
 byte-requires-2 : tie.Need-byte-requires-2
-byte-requires-2 c κs = search needs
+byte-requires-2 c κs = omega arith
 
 zeros-requires : tie.Need-zeros-requires
-zeros-requires c κs = search needs
+zeros-requires c κs = omega arith
 
 cut-requires : tie.Need-cut-requires
-cut-requires c κs = search needs
+cut-requires c κs = omega arith
 
 same-length : tie.Need-same-length
-same-length c = search needs
+same-length c = omega arith
 
 returns : tie.Need-returns
 returns c =

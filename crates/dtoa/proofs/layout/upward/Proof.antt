@@ -8,7 +8,6 @@ use mir.Syntax.{w32}
 use mir.Val.{toZ}
 use Rattle.dtoa.proofs.Ruled as ruled
 use Rattle.dtoa.proofs.Texts.{digits-long}
-use borrow.Author.Needs.{needs}
 use Rattle.dtoa.proofs.layout.upward.Statement.{statement}
 use Rattle.dtoa.proofs.layout.upward.Tie as tie
 
@@ -16,13 +15,13 @@ exponent : (c : tie.Start) → toZ w32 (c .args .len + c .args .k - 1) ≡ pos (
 exponent c = toZ-pos w32 (omega arith)
 
 add-if1 : tie.Need-add-if1
-add-if1 c = search needs
+add-if1 c = omega arith
 
 whole-requires : tie.Need-whole-requires
-whole-requires c κs = search needs
+whole-requires c κs = omega arith
 
 same-length : tie.Need-same-length
-same-length c = search needs
+same-length c = omega arith
 
 returns : tie.Need-returns
 returns c =
@@ -31,13 +30,13 @@ returns c =
     rw (ruled.whole _ (digits-long _ _ (start .pre .0)) (start .pre .0 .some) _ (test .if1 .taken)) (c .before .before .whole .ensures)
 
 add-scientific : tie.Need-add-scientific
-add-scientific c = search needs
+add-scientific c = omega arith
 
 sub-scientific : tie.Need-sub-scientific
-sub-scientific c = search needs
+sub-scientific c = omega arith
 
 cast-scientific : tie.Need-cast-scientific
-cast-scientific c = search needs
+cast-scientific c = omega arith
 
 scientific-requires : tie.Need-scientific-requires
 scientific-requires c κs =
@@ -45,7 +44,7 @@ scientific-requires c κs =
     (start .pre .0, rw (exponent start) (omega arith))
 
 same-length-2 : tie.Need-same-length-2
-same-length-2 c = search needs
+same-length-2 c = omega arith
 
 returns-2 : tie.Need-returns-2
 returns-2 c =

@@ -4,12 +4,11 @@ use lib.ListN.{length-replicate}
 use Rattle.laws.proofs.Puts.{kept, standing, then}
 use Rattle.rules.specs.Bytes.{byte0}
 use Rattle.rules.specs.Layout.{zeros}
-use borrow.Author.Needs.{needs}
 use Rattle.dtoa.proofs.layout.whole.Statement.{statement}
 use Rattle.dtoa.proofs.layout.whole.Tie as tie
 
 zeros-requires : tie.Need-zeros-requires
-zeros-requires c κs = search needs
+zeros-requires c κs = omega arith
 
 put-point-zero-requires : tie.Need-put-point-zero-requires
 unfolding zeros
@@ -18,7 +17,7 @@ put-point-zero-requires c κs =
     omega (arith, put .behind, kept put, length-replicate (c .before .before .before .before .before .before .args .zeros) byte0)
 
 same-length : tie.Need-same-length
-same-length c = search needs
+same-length c = omega arith
 
 returns : tie.Need-returns
 returns c = standing (then (c .before .before .before .before .before .before .zeros .ensures) (c .before .before .put-point-zero .ensures))

@@ -22,16 +22,16 @@ magnitude-requires : tie.Need-magnitude-requires
 magnitude-requires c κs = search needs
 
 byte-requires : tie.Need-byte-requires
-byte-requires c κs = search needs
+byte-requires c κs = omega arith
 
 sub-write-small : tie.Need-sub-write-small
-sub-write-small c = search needs
+sub-write-small c = omega arith
 
 part-write-small-start : tie.Need-part-write-small-start
-part-write-small-start c = search needs
+part-write-small-start c = omega arith
 
 part-write-small-end : tie.Need-part-write-small-end
-part-write-small-end c = search needs
+part-write-small-end c = omega arith
 
 write-small-requires : tie.Need-write-small-requires
 write-small-requires c κs =
@@ -41,10 +41,10 @@ write-small-requires c κs =
     )
 
 add-result : tie.Need-add-result
-add-result c = search needs
+add-result c = omega arith
 
 same-length : tie.Need-same-length
-same-length c = search needs
+same-length c = omega arith
 
 returns : tie.Need-returns
 returns c =
@@ -57,7 +57,7 @@ write-small-requires-2 : tie.Need-write-small-requires-2
 write-small-requires-2 c κs = (omega (arith, size (c .before .before)), omega arith)
 
 same-length-2 : tie.Need-same-length-2
-same-length-2 c = search needs
+same-length-2 c = omega arith
 
 returns-2 : tie.Need-returns-2
 returns-2 c =

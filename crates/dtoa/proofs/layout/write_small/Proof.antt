@@ -3,15 +3,14 @@ use mathlib.Core.Path.{refl}
 use native.Mathlib.Omega.{arith}
 use Rattle.dtoa.proofs.Counted.{count-one, count-is}
 use Rattle.dtoa.proofs.Numerals.{one-more, first-digit, plainly}
-use borrow.Author.Needs.{needs}
 use Rattle.dtoa.proofs.layout.write_small.Statement.{statement}
 use Rattle.dtoa.proofs.layout.write_small.Tie as tie
 
 digit-requires : tie.Need-digit-requires
-digit-requires c κs = search needs
+digit-requires c κs = omega arith
 
 same-length : tie.Need-same-length
-same-length c = search needs
+same-length c = omega arith
 
 returns : tie.Need-returns
 returns c =
@@ -19,13 +18,13 @@ returns c =
     plainly _ 1 (count-one _ less) (first-digit _ less (c .before .before .digit .ensures))
 
 digit-requires-2 : tie.Need-digit-requires-2
-digit-requires-2 c κs = search needs
+digit-requires-2 c κs = omega arith
 
 digit-requires-3 : tie.Need-digit-requires-3
-digit-requires-3 c κs = search needs
+digit-requires-3 c κs = omega arith
 
 same-length-2 : tie.Need-same-length-2
-same-length-2 c = search needs
+same-length-2 c = omega arith
 
 returns-2 : tie.Need-returns-2
 returns-2 c =
@@ -35,16 +34,16 @@ returns-2 c =
     (one-more 1 _ _ _ refl refl (first-digit _ (omega arith) (a .digit2 .ensures)) (c .before .before .digit3 .ensures))
 
 digit-requires-4 : tie.Need-digit-requires-4
-digit-requires-4 c κs = search needs
+digit-requires-4 c κs = omega arith
 
 digit-requires-5 : tie.Need-digit-requires-5
-digit-requires-5 c κs = search needs
+digit-requires-5 c κs = omega arith
 
 digit-requires-6 : tie.Need-digit-requires-6
-digit-requires-6 c κs = search needs
+digit-requires-6 c κs = omega arith
 
 same-length-3 : tie.Need-same-length-3
-same-length-3 c = search needs
+same-length-3 c = omega arith
 
 returns-3 : tie.Need-returns-3
 returns-3 c =

@@ -1,14 +1,15 @@
 -- `dtoa::put::byte` meets its contract. Assumes nothing.
+use native.Mathlib.Omega.{arith}
 use borrow.Author.Needs.{needs}
 use Rattle.laws.proofs.Puts.{one}
 use Rattle.dtoa.proofs.put.byte.Statement.{statement}
 use Rattle.dtoa.proofs.put.byte.Tie as tie
 
 slice-write-buf : tie.Need-slice-write-buf
-slice-write-buf c = search needs
+slice-write-buf c = omega arith
 
 add-result : tie.Need-add-result
-add-result c = search needs
+add-result c = omega arith
 
 same-length : tie.Need-same-length
 same-length c = search needs
