@@ -1,0 +1,2 @@
+-- The proofs of the C interface. Assumes nothing.
+pub mod Answering
