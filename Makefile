@@ -1,7 +1,12 @@
-# make run    prove the rules and show the proved examples, patterns and texts side by side
-# make test   the gate: the layout of every file, then all proofs, must-fail edits and programs from nothing
+# make run        prove the rules and show the proved examples, patterns and texts side by side
+# make test       the gate: the layout of every file, then all proofs, must-fail edits and programs from nothing
+# make test-c     call the archive from C, through include/dtoa.h
+#
+# DTOA_LIB=FOLDER  has libdtoa_c.a; where it is not given, rt proves and makes target/staticlib/libdtoa_c.a
 
-.PHONY: run test
+.PHONY: run test test-c
+
+export DTOA_LIB
 
 run:
 	rt check
@@ -12,3 +17,6 @@ run:
 test:
 	rt fmt --check
 	rt ci
+
+test-c:
+	@tests/c/run.sh
