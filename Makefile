@@ -1,10 +1,11 @@
 # make run        prove the rules and show the proved examples, patterns and texts side by side
 # make test       the gate: the layout of every file, then all proofs, must-fail edits and programs from nothing
 # make test-c     call the archive from C, through include/dtoa.h
+# make test-rust  call the archive from Rust, through bindings/rust
 #
 # DTOA_LIB=FOLDER  has libdtoa_c.a; where it is not given, rt proves and makes target/staticlib/libdtoa_c.a
 
-.PHONY: run test test-c
+.PHONY: run test test-c test-rust
 
 export DTOA_LIB
 
@@ -20,3 +21,6 @@ test:
 
 test-c:
 	@tests/c/run.sh
+
+test-rust:
+	@bindings/rust/test.sh

@@ -18,14 +18,14 @@ missing() { # MESSAGE
 }
 
 need_program() { # PROGRAM WHAT-IT-IS
-    command -v "$1" >/dev/null 2>&1 || missing "there is no $2 on this machine ($1 is not on the path)"
+    "$1" --version >/dev/null 2>&1 || missing "there is no $2 on this machine ($1 does not run)"
 }
 
 # Sets `source`, the folder of the unchanged crate.
 need_source() {
     source=${DTOA_SRC:-../shared/docs/src}
     [ -f "$source/src/lib.rs" ] || missing "the unchanged crate dtoa 1.0.11 is not there: no $source/src/lib.rs (DTOA_SRC=FOLDER says where it is)"
-    if ! grep -q 'docs.rs/dtoa/1\.0\.11"' "$source/src/lib.rs"; then
+    if ! grep -q 'html_root_url.*/dtoa/1\.0\.11"' "$source/src/lib.rs"; then
         printf '%s: %s/src/lib.rs is not that of dtoa 1.0.11, which names its own version in html_root_url.\n' "$name" "$source" >&2
         exit 1
     fi
