@@ -2,12 +2,15 @@
 # make test       the gate: the layout of every file, then all proofs, must-fail edits and programs from nothing
 # make test-c     call the archive from C, through include/dtoa.h
 # make test-rust  call the archive from Rust, through bindings/rust
+# make compare    call the archive and the unchanged crate with the same patterns: all of f32, and 500 million random ones of f64
+#                 (QUICK=1: a sample; SEED=NUMBER: the random ones; REPORT=1: write docs/COMPARISON.md)
 #
 # DTOA_LIB=FOLDER  has libdtoa_c.a; where it is not given, rt proves and makes target/staticlib/libdtoa_c.a
+# DTOA_SRC=FOLDER  has the unchanged crate dtoa 1.0.11, its src/lib.rs; where it is not given, ../shared/docs/src
 
-.PHONY: run test test-c test-rust
+.PHONY: run test test-c test-rust compare
 
-export DTOA_LIB
+export DTOA_LIB DTOA_SRC QUICK SEED REPORT
 
 run:
 	rt check
@@ -24,3 +27,6 @@ test-c:
 
 test-rust:
 	@bindings/rust/test.sh
+
+compare:
+	@tools/compare/run.sh

@@ -49,3 +49,11 @@ build_crate() {
     mkdir -p target/tools
     rustc --edition 2021 --crate-name dtoa --crate-type rlib -C opt-level=3 --cap-lints allow --out-dir target/tools "$source/src/lib.rs"
 }
+
+# Prints the day, the machine and the versions of what was run, for a page that a run writes.
+about_this_run() {
+    date -u '+%Y-%m-%d'
+    sed -n 's/^model name[^:]*: *//p' /proc/cpuinfo | sort | uniq -c | sed 's/^ *\([0-9]*\) \(.*\)/processors: \1, \2/'
+    echo "Rust crate: dtoa 1.0.11, compiled by $(rustc --version)"
+    echo "archive: $(rt version), sha256 $(sha256sum "$library/libdtoa_c.a" | cut -c1-16)"
+}
