@@ -8,6 +8,8 @@ pub struct Printed {
     pub length: u32,
 }
 
+// a program may have no use for some of them
+#[allow(dead_code)]
 extern "C" {
     pub fn dtoa_format32(bits: u32, buf: *mut u8, len: usize) -> Printed;
     pub fn dtoa_format64(bits: u64, buf: *mut u8, len: usize) -> Printed;
