@@ -1,5 +1,6 @@
 # make run        prove the rules and show the proved examples, patterns and texts side by side
-# make test       the gate: the layout of every file, then all proofs, must-fail edits and programs from nothing
+# make test       the gate: the layout of every file, the archive called from C and Rust and held against the crate on a sample,
+#                 then all proofs, must-fail edits and programs from nothing
 # make test-c     call the archive from C, through include/dtoa.h
 # make test-rust  call the archive from Rust, through bindings/rust
 # make compare    call the archive and the unchanged crate with the same patterns: all of f32, and 500 million random ones of f64
@@ -23,6 +24,8 @@ run:
 
 test:
 	rt fmt --check
+	$(if $(DTOA_LIB),,rt staticlib dtoa_c)
+	@$(MAKE) --no-print-directory QUICK=1 REPORT= DTOA_LIB=$(or $(DTOA_LIB),target/staticlib) test-c test-rust compare
 	rt ci
 
 test-c:
