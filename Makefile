@@ -1,7 +1,20 @@
-# make run    prove the rules and show the proved examples, patterns and texts side by side
-# make test   the gate: the layout of every file, then all proofs, must-fail edits and programs from nothing
+# make run        prove the rules and show the proved examples, patterns and texts side by side
+# make test       the gate: the layout of every file, the archive called from C and Rust and held against the crate on a sample,
+#                 then all proofs, must-fail edits and programs from nothing
+# make test-c     call the archive from C, through include/dtoa.h
+# make test-rust  call the archive from Rust, through bindings/rust
+# make compare    call the archive and the unchanged crate with the same patterns: all of f32, and 500 million random ones of f64
+#                 (QUICK=1: a sample; SEED=NUMBER: the random ones; REPORT=1: write docs/COMPARISON.md)
+# make bench      time our calls beside the crate's, and beside ryu's, fmt's and Dragonbox's where Debian's packages are installed
+#                 (REPORT=1: write docs/PERFORMANCE.md and docs/performance.svg)
+# make list       write the stored list of the program replay, crates/replay/data/list.txt, from the unchanged crate
+#
+# DTOA_LIB=FOLDER  has libdtoa_c.a; where it is not given, rt proves and makes target/staticlib/libdtoa_c.a
+# DTOA_SRC=FOLDER  has the unchanged crate dtoa 1.0.11, its src/lib.rs; where it is not given, ../shared/docs/src
 
-.PHONY: run test
+.PHONY: run test test-c test-rust compare bench list
+
+export DTOA_LIB DTOA_SRC QUICK SEED REPORT
 
 run:
 	rt check
@@ -11,4 +24,21 @@ run:
 
 test:
 	rt fmt --check
+	$(if $(DTOA_LIB),,rt staticlib dtoa_c)
+	@$(MAKE) --no-print-directory QUICK=1 REPORT= DTOA_LIB=$(or $(DTOA_LIB),target/staticlib) test-c test-rust compare
 	rt ci
+
+test-c:
+	@tests/c/run.sh
+
+test-rust:
+	@bindings/rust/test.sh
+
+compare:
+	@tools/compare/run.sh
+
+bench:
+	@tools/bench/run.sh
+
+list:
+	@tools/list/run.sh

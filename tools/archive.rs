@@ -1,0 +1,18 @@
+//! The functions of libdtoa_c.a, as include/dtoa.h declares them.
+
+/// `struct dtoa_printed`.
+#[repr(C)]
+#[derive(Clone, Copy, PartialEq, Eq)]
+pub struct Printed {
+    pub number: u32,
+    pub length: u32,
+}
+
+// a program may have no use for some of them
+#[allow(dead_code)]
+extern "C" {
+    pub fn dtoa_format32(bits: u32, buf: *mut u8, len: usize) -> Printed;
+    pub fn dtoa_format64(bits: u64, buf: *mut u8, len: usize) -> Printed;
+    pub fn dtoa_format_finite32(bits: u32, buf: *mut u8, len: usize) -> Printed;
+    pub fn dtoa_format_finite64(bits: u64, buf: *mut u8, len: usize) -> Printed;
+}

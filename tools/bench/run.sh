@@ -1,0 +1,96 @@
+#!/bin/sh
+# make bench: times our calls and the unchanged crate's, and those of ryu, fmt and Dragonbox where Debian's packages are installed.
+# REPORT=1 writes docs/PERFORMANCE.md and docs/performance.svg from the run.
+set -eu
+cd "$(dirname "$0")/../.."
+name=bench
+. tools/common.sh
+
+need_program rustc 'Rust compiler'
+need_source
+need_archive
+build_crate
+
+# What rustc is to be told of the other libraries, and what is said of them.
+words='' told=''
+timed() { # NAME WORDS
+    told="$told, $1"
+    words="$words $2"
+}
+untimed() { # NAME WHY
+    echo "bench: $1 is not timed: $2"
+}
+
+# The first of the files that is there; nothing where none is.
+first() { for file; do if [ -f "$file" ]; then echo "$file" && return; fi; done; }
+
+ryu=$(first /usr/share/cargo/registry/ryu-*/Cargo.toml)
+if [ -z "$ryu" ]; then
+    untimed ryu "Debian's librust-ryu-dev is not installed"
+else
+    folder=${ryu%/Cargo.toml}
+    edition=$(sed -n 's/^edition = "\(.*\)"/\1/p' "$ryu")
+    # the two conditions are those that ryu's own build script sets for a compiler of these years
+    rustc --edition "${edition:-2015}" --crate-name ryu --crate-type rlib -C opt-level=3 --cap-lints allow \
+        --cfg integer128 --cfg maybe_uninit --out-dir target/tools "$folder/src/lib.rs"
+    timed "ryu ${folder##*-}" '--cfg ryu --extern ryu=target/tools/libryu.rlib'
+fi
+
+# Compiles one of the files in C++.
+compile() { # NAME [WORDS...]
+    object=$1
+    shift
+    "${CXX:=c++}" -std=c++17 -O3 -DNDEBUG "$@" -c -o "target/tools/$object.o" "tools/bench/$object.cpp"
+}
+
+fmt=$(first /usr/include/fmt/compile.h)
+if [ -z "$fmt" ]; then
+    untimed fmt "Debian's libfmt-dev is not installed"
+elif ! compile fmt -DFMT_HEADER_ONLY; then
+    untimed fmt 'tools/bench/fmt.cpp does not compile'
+else
+    version=$(sed -n 's/^#define FMT_VERSION \([0-9]*\)0\([0-9]\)0\([0-9]\)$/\1.\2.\3/p' /usr/include/fmt/core.h)
+    timed "fmt $version" '--cfg fmt -C link-arg=target/tools/fmt.o -l stdc++'
+fi
+
+dragonbox=$(first /usr/include/dragonbox-*/dragonbox/dragonbox_to_chars.h)
+if [ -z "$dragonbox" ]; then
+    untimed Dragonbox "Debian's libdragonbox-dev is not installed"
+elif ! compile dragonbox -I "${dragonbox%/dragonbox/*}"; then
+    untimed Dragonbox 'tools/bench/dragonbox.cpp does not compile'
+else
+    version=${dragonbox%/dragonbox/*} version=${version##*-}
+    timed "Dragonbox $version" '--cfg dragonbox -C link-arg=target/tools/dragonbox.o -C link-arg=-ldragonbox_to_chars -l stdc++'
+fi
+
+# shellcheck disable=SC2086
+rustc --edition 2021 -C opt-level=3 --extern dtoa=target/tools/libdtoa.rlib -L "native=$library" -l static=dtoa_c $words \
+    -o target/tools/bench tools/bench/main.rs
+echo "bench: our calls and dtoa 1.0.11$told"
+load="load before the run: $(cut -d ' ' -f 1 /proc/loadavg), on $(nproc) processors"
+echo "bench: $load"
+if [ -z "${REPORT:-}" ]; then exec target/tools/bench; fi
+
+target/tools/bench --table target/tools/bench.md --plot docs/performance.svg >target/tools/bench.out
+cat target/tools/bench.out
+{
+    cat <<'END'
+# Performance
+
+`make bench REPORT=1` wrote this page and its plot; nothing on it is written by hand.
+
+Nanoseconds per call, and in brackets the ratio to the crate dtoa 1.0.11; below 1 is faster than the crate. A printer
+prints 4,000 numbers into a buffer that is never cleared (ours and the crate into the same 25 bytes), then the next printer prints
+the same ones, and so on through 100,000 numbers and many rounds; the median of a printer's turns counts. The heights are spread
+evenly over -100 to 9000.
+
+END
+    cat target/tools/bench.md
+    printf '\n![The same figures as bars](performance.svg)\n\n'
+    about_this_run | sed 's/^/    /'
+    printf '    other libraries: %s\n' "${told#, }"
+    printf '    %s\n' "$load"
+    printf '    %s\n' "$(tail -n 1 target/tools/bench.out)"
+} >docs/PERFORMANCE.md
+echo 'bench: wrote docs/PERFORMANCE.md and docs/performance.svg'
+tail -n 1 target/tools/bench.out

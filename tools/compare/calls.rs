@@ -1,0 +1,97 @@
+//! Calls of the archive, held against what they are to answer: docs/RULES.md says which number, the crate which text.
+
+use crate::archive::Printed;
+use crate::lent::Lent;
+use crate::plan::ROOM;
+use crate::report::Differences;
+use crate::width::{Entry, Width};
+
+/// What a thread needs to make calls.
+pub struct Caller<'a> {
+    lent: Lent,
+    original: dtoa::Buffer,
+    pub differences: &'a Differences,
+    pub calls: u64,
+}
+
+const TOO_SHORT: Printed = Printed { number: 1, length: 0 };
+const NOT_FINITE: Printed = Printed { number: 2, length: 0 };
+
+fn printed(text: &str) -> Printed {
+    Printed { number: 0, length: text.len() as u32 }
+}
+
+impl<'a> Caller<'a> {
+    pub fn new(differences: &'a Differences) -> Caller<'a> {
+        Caller { lent: Lent::new(), original: dtoa::Buffer::new(), differences, calls: 0 }
+    }
+
+    #[inline(always)]
+    fn call<W: Width>(&mut self, entry: Entry, bits: u64, room: usize) -> Printed {
+        self.calls += 1;
+        // SAFETY: no room is longer than the lent buffer.
+        unsafe { W::ours(entry, bits, self.lent.start(), room) }
+    }
+
+    /// Makes both entries' calls for a pattern, in a buffer that serves and in one that is too short, and says whether number,
+    /// length and text are right and the bytes near the text stayed. The crate is asked once: at a finite pattern its
+    /// `format` is its `format_finite`.
+    #[inline(always)]
+    pub fn agrees<W: Width>(&mut self, bits: u64, serving: usize, too_short: usize) -> bool {
+        let text = W::original(Entry::Every, bits, &mut self.original);
+        let (answer, with_text) = (printed(text), self.lent.near_with(text));
+        let untouched = self.lent.near_with("");
+
+        let mut same = self.call::<W>(Entry::Every, bits, too_short) == TOO_SHORT;
+        same &= self.call::<W>(Entry::FiniteOnly, bits, too_short) == TOO_SHORT;
+        same &= self.lent.near_was(&untouched);
+
+        same &= self.call::<W>(Entry::Every, bits, serving) == answer;
+        same &= self.lent.near_was(&with_text);
+
+        let finite_only = self.call::<W>(Entry::FiniteOnly, bits, serving);
+        if W::is_finite(bits) {
+            same &= finite_only == answer;
+            same &= self.lent.near_was(&with_text);
+        } else {
+            same &= finite_only == NOT_FINITE;
+            same &= self.lent.near_was(&untouched);
+        }
+        same
+    }
+
+    /// Whether the calls so far left every byte as it was that none of their texts covers. Puts right what they did not.
+    pub fn left_nothing(&mut self) -> bool {
+        let nothing = self.lent.stayed(0);
+        self.lent.refill();
+        nothing
+    }
+
+    /// Makes one call and looks at every byte. Writes down a difference, and says whether there was none.
+    pub fn inspect<W: Width>(&mut self, entry: Entry, bits: u64, room: usize) -> bool {
+        let got = self.call::<W>(entry, bits, room);
+        let (wanted, text) = if room < ROOM {
+            (TOO_SHORT, "")
+        } else if entry == Entry::FiniteOnly && !W::is_finite(bits) {
+            (NOT_FINITE, "")
+        } else {
+            let text = W::original(entry, bits, &mut self.original);
+            (printed(text), text)
+        };
+        let length = got.length as usize;
+        let same = got == wanted && self.lent.text(length) == text.as_bytes() && self.lent.stayed(length);
+        if !same {
+            let lent = &self.lent;
+            self.differences.add(|| {
+                let call = format!("{}(0x{bits:0digits$x})", W::name(entry), digits = W::BITS as usize / 4);
+                let wanted = format!("number {}, length {}, {text:?}", wanted.number, wanted.length);
+                let got = format!("number {}, length {length}, \"{}\"", got.number, lent.text(length).escape_ascii());
+                let strays: String = lent.strays(length).take(8).map(|(at, byte)| format!(" {at}:{byte:02x}")).collect();
+                let changed = if strays.is_empty() { "" } else { ", and changed bytes that are to stay, place:value" };
+                format!("{call}, buffer of {room} bytes\n  wanted  {wanted}\n  got     {got}{changed}{strays}")
+            });
+        }
+        self.lent.refill();
+        same
+    }
+}

@@ -1,0 +1,136 @@
+//! Compares the archive with the unchanged crate, call by call: number, length, text, and the bytes that are to stay.
+//!
+//! Usage: compare [--quick] [--seed NUMBER]
+//! Progress goes to standard error; differences and the summary to standard output. Exit status 1 if there is a difference.
+
+#[path = "../archive.rs"]
+mod archive;
+mod calls;
+mod lent;
+mod options;
+mod plan;
+#[path = "../random.rs"]
+mod random;
+mod report;
+mod width;
+
+use std::process::exit;
+use std::sync::atomic::{AtomicU64, Ordering::Relaxed};
+use std::thread;
+use std::time::{Duration, Instant};
+
+use calls::Caller;
+use options::Options;
+use plan::{edges, rooms, serving, spread, too_short, Block, Plan};
+use random::random;
+use report::{duration, grouped, Differences};
+use width::{Binary32, Binary64, Width, ENTRIES};
+
+/// Each of the patterns in every buffer, at both entries.
+fn compare_edges<W: Width>(caller: &mut Caller) -> u64 {
+    let mut patterns = 0;
+    for bits in edges::<W>() {
+        for room in rooms() {
+            for entry in ENTRIES {
+                caller.inspect::<W>(entry, bits, room);
+            }
+        }
+        patterns += 1;
+    }
+    patterns
+}
+
+/// A block of patterns, each at both entries in a buffer that serves and in one that is too short. Where something differs,
+/// the block is gone through again, with a look at every byte after every call.
+fn compare_block<W: Width>(caller: &mut Caller, first: u64, end: u64, pattern: impl Fn(u64) -> u64) {
+    let mut same = true;
+    for n in first..end {
+        same &= caller.agrees::<W>(pattern(n), serving(n), too_short(n));
+    }
+    same &= caller.left_nothing();
+    if same {
+        return;
+    }
+    let mut again = true;
+    for n in first..end {
+        for entry in ENTRIES {
+            for room in [serving(n), too_short(n)] {
+                again &= caller.inspect::<W>(entry, pattern(n), room);
+            }
+        }
+    }
+    if again {
+        let lost = format!(
+            "{} patterns from {:#x} on, as this run orders them: one differed, but not when called again",
+            end - first,
+            pattern(first)
+        );
+        caller.differences.add(|| lost);
+    }
+}
+
+/// Takes blocks until none is left.
+fn work(plan: &Plan, next: &AtomicU64, done: &AtomicU64, differences: &Differences) -> u64 {
+    let mut caller = Caller::new(differences);
+    loop {
+        let i = next.fetch_add(1, Relaxed);
+        if i >= plan.blocks() {
+            return caller.calls;
+        }
+        match plan.block(i) {
+            Block::All32 { first, end } => compare_block::<Binary32>(&mut caller, first, end, spread),
+            Block::Random64 { first, end } => compare_block::<Binary64>(&mut caller, first, end, |n| random(plan.seed, n)),
+        }
+        done.fetch_add(1, Relaxed);
+    }
+}
+
+/// Compares the sweeps with as many threads as the machine has processors, and says now and then how far they are.
+fn compare_sweeps(plan: &Plan, threads: usize, differences: &Differences) -> u64 {
+    let (next, done) = (AtomicU64::new(0), AtomicU64::new(0));
+    let began = Instant::now();
+    let mut said = Duration::ZERO;
+    thread::scope(|scope| {
+        let workers: Vec<_> = (0..threads).map(|_| scope.spawn(|| work(plan, &next, &done, differences))).collect();
+        while !workers.iter().all(|worker| worker.is_finished()) {
+            thread::sleep(Duration::from_millis(50));
+            let gone = began.elapsed();
+            let pause = if said.is_zero() { 3 } else { 20 };
+            if gone >= said + Duration::from_secs(pause) {
+                said = gone;
+                report::progress(done.load(Relaxed), plan.blocks(), gone, differences.count());
+            }
+        }
+        workers.into_iter().map(|worker| worker.join().expect("a worker does not panic")).sum()
+    })
+}
+
+fn main() {
+    let options = Options::read();
+    let plan = if options.quick {
+        Plan { seed: options.seed, all32: 1 << 24, random64: 4_000_000 }
+    } else {
+        Plan { seed: options.seed, all32: 1 << 32, random64: 500_000_000 }
+    };
+    let threads = thread::available_parallelism().map_or(1, |n| n.get());
+    let differences = Differences::new();
+    let began = Instant::now();
+    println!("seed {:#018x}, threads {threads}{}", plan.seed, if options.quick { ", a sample only" } else { "" });
+
+    let mut caller = Caller::new(&differences);
+    let edges32 = compare_edges::<Binary32>(&mut caller);
+    let edges64 = compare_edges::<Binary64>(&mut caller);
+    let calls = caller.calls + compare_sweeps(&plan, threads, &differences);
+
+    println!("f32: {} patterns{}", grouped(plan.all32), if plan.all32 == 1 << 32 { ", which are all" } else { "" });
+    println!("f64: {} random patterns", grouped(plan.random64));
+    println!("  each at both entries, in a buffer of 25 to 64 or 4,096 bytes in turn, and in one of 0 to 24 bytes");
+    println!("every exponent with the first, second, middle and last significand and both signs:");
+    println!(
+        "  {} patterns of f32 and {} of f64, each at both entries in every one of these buffers",
+        grouped(edges32),
+        grouped(edges64)
+    );
+    println!("compare: {} differences in {} calls, {}", grouped(differences.count()), grouped(calls), duration(began.elapsed()));
+    exit(i32::from(differences.count() > 0));
+}

@@ -1,0 +1,98 @@
+//! The two widths: for each, the archive's functions and the crate's, side by side.
+
+use crate::archive;
+use crate::archive::Printed;
+
+/// Which of a width's two entries is called.
+#[derive(Clone, Copy, PartialEq, Eq)]
+pub enum Entry {
+    /// `Buffer::format`: every pattern is printed.
+    Every,
+    /// `Buffer::format_finite`: for finite patterns only.
+    FiniteOnly,
+}
+
+pub const ENTRIES: [Entry; 2] = [Entry::Every, Entry::FiniteOnly];
+
+pub trait Width {
+    /// The bits of a pattern, of its significand, and of its exponent.
+    const BITS: u32;
+    const SIGNIFICAND: u32;
+    const EXPONENT: u32 = Self::BITS - Self::SIGNIFICAND - 1;
+
+    /// The name of the archive's function.
+    fn name(entry: Entry) -> &'static str;
+
+    /// What the archive answers.
+    ///
+    /// # Safety
+    /// `buf` points to `room` bytes that may be written.
+    unsafe fn ours(entry: Entry, bits: u64, buf: *mut u8, room: usize) -> Printed;
+
+    /// What the crate prints. Its finite-only entry is not to be asked for a NaN or an infinity.
+    fn original(entry: Entry, bits: u64, buffer: &mut dtoa::Buffer) -> &str;
+
+    fn is_finite(bits: u64) -> bool {
+        let exponent = bits >> Self::SIGNIFICAND & ((1 << Self::EXPONENT) - 1);
+        exponent != (1 << Self::EXPONENT) - 1
+    }
+}
+
+pub struct Binary32;
+pub struct Binary64;
+
+impl Width for Binary32 {
+    const BITS: u32 = 32;
+    const SIGNIFICAND: u32 = 23;
+
+    fn name(entry: Entry) -> &'static str {
+        match entry {
+            Entry::Every => "dtoa_format32",
+            Entry::FiniteOnly => "dtoa_format_finite32",
+        }
+    }
+
+    #[inline(always)]
+    unsafe fn ours(entry: Entry, bits: u64, buf: *mut u8, room: usize) -> Printed {
+        match entry {
+            Entry::Every => archive::dtoa_format32(bits as u32, buf, room),
+            Entry::FiniteOnly => archive::dtoa_format_finite32(bits as u32, buf, room),
+        }
+    }
+
+    #[inline(always)]
+    fn original(entry: Entry, bits: u64, buffer: &mut dtoa::Buffer) -> &str {
+        match entry {
+            Entry::Every => buffer.format(f32::from_bits(bits as u32)),
+            Entry::FiniteOnly => buffer.format_finite(f32::from_bits(bits as u32)),
+        }
+    }
+}
+
+impl Width for Binary64 {
+    const BITS: u32 = 64;
+    const SIGNIFICAND: u32 = 52;
+
+    fn name(entry: Entry) -> &'static str {
+        match entry {
+            Entry::Every => "dtoa_format64",
+            Entry::FiniteOnly => "dtoa_format_finite64",
+        }
+    }
+
+    #[inline(always)]
+    unsafe fn ours(entry: Entry, bits: u64, buf: *mut u8, room: usize) -> Printed {
+        match entry {
+            Entry::Every => archive::dtoa_format64(bits, buf, room),
+            Entry::FiniteOnly => archive::dtoa_format_finite64(bits, buf, room),
+        }
+    }
+
+    #[inline(always)]
+    fn original(entry: Entry, bits: u64, buffer: &mut dtoa::Buffer) -> &str {
+        match entry {
+            Entry::Every => buffer.format(f64::from_bits(bits)),
+            Entry::FiniteOnly => buffer.format_finite(f64::from_bits(bits)),
+        }
+    }
+}

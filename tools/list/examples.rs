@@ -1,0 +1,24 @@
+//! The patterns that crates/rules/proofs/Examples.antt names.
+
+/// Each pattern, with the bits of its width, and with its text where the example says what it prints.
+pub fn patterns(examples: &str) -> Vec<((u32, u64), Option<String>)> {
+    examples.lines().filter_map(example).collect()
+}
+
+/// The pattern of a line such as `∷ prints w32 0x80000000 "-0.0"` or `∷ reads w64 "0.1" 0x3fb999999999999a`.
+fn example(line: &str) -> Option<((u32, u64), Option<String>)> {
+    let words: Vec<&str> = line.split_whitespace().collect();
+    let at = words.iter().position(|word| *word == "w32" || *word == "w64")?;
+    let bits = if words[at] == "w32" { 32 } else { 64 };
+    let pattern = words[at + 1..].iter().find_map(|word| number(word))?;
+    let printed = words[at - 1] == "prints";
+    let text = printed.then(|| line.split('"').nth(1).unwrap_or_default().to_string());
+    Some(((bits, pattern), text))
+}
+
+fn number(word: &str) -> Option<u64> {
+    match word.strip_prefix("0x") {
+        Some(digits) => u64::from_str_radix(digits, 16).ok(),
+        None => word.parse().ok(),
+    }
+}
