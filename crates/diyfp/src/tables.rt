@@ -1,9 +1,19 @@
-// The cached powers of ten: entry i is a significand and a binary exponent.
+// The cached powers of ten: the index that k asks for, and of entry i the significand and the binary exponent.
 ghost use mathlib.Core.Path.{_≡_};
 ghost use Prim.Native.Nat.{_<_};
-ghost use lib.IntN.{subℕ};
+ghost use lib.IntN.{pos, natAbs, subℕ, _+ℤ_};
 ghost use lib.ListN.{getD};
+ghost use lib.Signed.{shrZ};
 ghost use Rattle.rules.specs.Width.{w32, w64};
+ghost use Rattle.diyfp.specs.Powers.{Indexable};
+
+// The table's index: one more than k / 8, where the division rounds down.
+pub fn index_of(k: i32) -> usize
+    requires { ⌜ Indexable k ⌝ }
+    ensures { λ r. ⌜ r ≡ natAbs (shrZ k 8 +ℤ pos 1) ⌝ }
+{
+    ((k >> 3) + 1) as usize
+}
 
 // The 32-bit significand of entry i, of 10^-36, 10^-28, .., 10^52.
 pub fn significand32(i: usize) -> u32

@@ -1,0 +1,17 @@
+-- `diyfp::tables::index_of` meets its contract. Assumes nothing.
+use native.Mathlib.Omega.{arith}
+use Rattle.diyfp.proofs.Indexing.{floors}
+use Rattle.diyfp.proofs.tables.index_of.Statement.{statement}
+use Rattle.diyfp.proofs.tables.index_of.Tie as tie
+
+add-result : tie.Need-add-result
+add-result c = floors (c .pre) .adds
+
+cast-result : tie.Need-cast-result
+cast-result c = (floors (c .pre) .natural, omega (arith, floors (c .pre) .small))
+
+returns : tie.Need-returns
+returns c = floors (c .pre) .is
+
+pub index-of-spec : {M : Type 1} → statement M
+index-of-spec = tie.close (tie.spec add-result cast-result returns)
