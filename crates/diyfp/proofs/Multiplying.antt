@@ -1,18 +1,18 @@
 -- The product of two pairs: the exponents' sum, and the significands' product by halves. Assumes nothing.
-use mathlib.Core.Path.{_≡_, sym, ap, subst, _∙_}
+use mathlib.Core.Path.{_≡_, sym, _∙_}
 use Prim.Native.Nat.{ℕ, suc, _+_, _-_, _*_, _/_, _%_, _^_, _≤_, _<_}
-use native.Mathlib.Nat.{le-of-lt, lt-of-le-of-lt, mod-lt, mul-le-mul-left, mul-le-mul-right}
+use native.Mathlib.Nat.{le-of-lt, lt-of-le-of-lt, mul-le-mul-left, mul-le-mul-right}
 use native.Mathlib.Omega.{arith}
 use lib.Bits.{bitAnd, and-mask, mask-lt}
 use lib.Dec.{lit<}
-use lib.IntN.{ℤ, pos, negsuc, subℕ, _+ℤ_}
+use lib.IntN.{ℤ, pos, negsuc, _+ℤ_}
 use lib.Pow.{pow-pos, pow-add, shl-lt, shr-lt, shr-mono, split}
 use mir.Syntax.{w32}
 use mir.Val.{SFits}
 use Rattle.laws.proofs.Differences as differences
 use Rattle.laws.proofs.Differences.{is-pos, is-negsuc}
 use Rattle.laws.proofs.Powers.{two-halves}
-use Rattle.laws.proofs.Signed.{read, Is, Held, held, sum, more}
+use Rattle.laws.proofs.Signed.{read, Is, held, sum, more}
 use Rattle.diyfp.specs.Pairs.{Near}
 
 -- An exponent near zero, as a difference.
@@ -32,6 +32,7 @@ pub record Sum (e d : ℤ) (n : ℕ) : Type 0 where
   pub twice : SFits w32 (read (read e +ℤ read d) +ℤ pos n)
   pub whole : read (read (read e +ℤ read d) +ℤ pos n) ≡ e +ℤ d +ℤ pos n
 
+-- Exponents near zero have such a sum.
 pub sums : {e d : ℤ} (n : ℕ) → n ≤ 2 ^ 13 → Near e → Near d → Sum e d n
 sums {e} {d} n small p q = told (differs e p) (differs d q)
   where
@@ -47,20 +48,22 @@ sums {e} {d} n small p q = told (differs e p) (differs d q)
               ∙ sym (rw (a .is .is, b .is .is, differences.add) (differences.more (a .above + b .above) (a .under + b .under) n));
         }
 
--- The two halves of a word.
+-- The upper half of a word.
 abbrev pub high : ℕ → ℕ
 high x = x / 2 ^ 32
 
+-- The lower half of a word.
 abbrev pub low : ℕ → ℕ
 low x = bitAnd x 0xFFFF_FFFF
 
 low-is : (x : ℕ) → low x ≡ x % 2 ^ 32
 low-is x = and-mask x 32
 
--- The column in the middle, with a part r of a unit, and the upper half of the product, to which that carries.
+-- The column in the middle of the product, with a part r of a unit.
 abbrev pub middle : ℕ → ℕ → ℕ → ℕ
 middle f g r = high (low f * low g) + low (high f * low g) + low (low f * high g) + r
 
+-- The upper half of the product, to which that column carries.
 abbrev pub upperHalf : ℕ → ℕ → ℕ → ℕ
 upperHalf f g r = high f * high g + high (high f * low g) + high (low f * high g) + high (middle f g r)
 
@@ -95,6 +98,7 @@ pub record Halves (f g : ℕ) : Type 0 where
   pub three : high f * high g + high (high f * low g) + high (low f * high g) < 2 ^ 64
   pub whole : (r : ℕ) → r ≤ 2 ^ 31 → upperHalf f g r < 2 ^ 64
 
+-- Two words are multiplied so.
 pub halves : {f g : ℕ} → f < 2 ^ 64 → g < 2 ^ 64 → Halves f g
 halves {f} {g} p q =
     record {

@@ -1,7 +1,6 @@
 -- `diyfp::binary64::DiyFp64::normalize` meets its contract. The invariant: the pair is on its way, shifted left so far. Assumes nothing.
 use mathlib.Core.Path.{_≡_}
 use Prim.Native.Nat.{_-_, _^_}
-use native.Mathlib.Omega.{arith}
 use lib.Bits.{bitAnd}
 use lib.Dec.{lit<, lit≤}
 use Rattle.rules.specs.Width.{w64}
