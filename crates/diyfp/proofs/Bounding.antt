@@ -42,6 +42,7 @@ module _ {w : Width} {f : ℕ} {e : ℤ} (small : Small w) (p : StandsIn w (Fini
       let near : Apart (m .exp) (off w) = omega (arith, h .most-exponent, small .sum) in
       less d (held (record { is = s .exponent }) near .back) (omega (arith, near, small .sum))
 
+  -- An i32 holds it.
   pub falls : (d : ℕ) → d ≤ w .N → SFits w32 (read e -ℤ pos d)
   falls d few = lowered d few (p .pair) (p .stands) .fits
 
@@ -167,13 +168,16 @@ module _ {w : Width} {q : ℕ} (sound : Sound w q) (small : Small w) (W : ℕ) (
   -- With the upper boundary shifted, (u, y), and the lower one where it lies, (b, d), the lower one is brought to the upper's exponent.
   module _ {b u : ℕ} {d y : ℤ} (low : Becomes w (below w) f e b d)
       (high : Becomes w (shifted (w .N) (w .N)) (f * 2 % W + 1) (read (read e -ℤ pos 1)) u y) where
+    -- The shifted one is the upper boundary.
     plus : Becomes w (upper w) f e u y
     unfolding upper
     plus m s = high (record { f = 2 * m .f + 1; exp = m .exp - 1 }) (above-stands m s)
 
+    -- An i32 holds the shift that this takes ..
     pub brings : (m : Pair) → Stands w m f e → Brought w m W b (read d -ℤ read y)
     brings m s = brought w q sound small m (kind p m s) W word (low m s) (plus m s)
 
+    -- .. and both are the boundaries.
     pub bounds : Bounds w f e (b * 2 ^ natAbs (read (read d -ℤ read y)) % W) (read y) u y
     unfolding lower
     bounds =

@@ -20,20 +20,22 @@ use Rattle.diyfp.proofs.Small.{Small}
 use Rattle.diyfp.proofs.Indexing.{most, k-read, k-indexable}
 
 module _ {w : Width} {q : ℕ} (sound : Sound w q) (small : Small w) {e : ℤ} (p : Served w e) where
-  -- The exponent itself is held.
+  -- The exponent itself is held ..
   own : read e ≡ e
   own =
       let is : Is e (p .raised) (off w) = record { is = p .exponent } in
       unchanged is (omega (arith, p .most, small .sum))
 
+  -- .. so it is served as it is read.
   pub served : Served w (read e)
   served = rw own p
 
-  -- Where z is the exponent's k, it has an index ..
+  -- Where z is the exponent's k ..
   module _ {z : ℤ} (asked : (E : ℕ) → read e ≡ subℕ E (off w) → z ≡ k w E) where
     k-is : (E : ℕ) → e ≡ subℕ E (off w) → read z ≡ k w E
     k-is E is = ap read (asked E (own ∙ is)) ∙ k-read sound small E (most p E is)
 
+    -- .. it has an index ..
     pub has-index : Indexable (read z)
     has-index = rw (k-is (p .raised) (p .exponent)) (k-indexable sound small (p .raised) (p .most))
 

@@ -25,24 +25,27 @@ use Rattle.theorems.proofs.Power.{Least, j-least, j-inside}
 use Rattle.diyfp.specs.Powers.{Served, Indexable}
 use Rattle.diyfp.proofs.Small.{Small}
 
--- The code's steps from an exponent e to k: less j, as the fraction 78913 / 2^18 of e + N - 3.
+-- The code's steps from an exponent e to k. First e + N - 3 ..
 abbrev pub raised : Width → ℤ → ℤ
 raised w e = read e +ℤ pos (w .N - 3)
 
+-- .. times a number that serves for 2^18 * log10(2) ..
 abbrev pub multiplied : Width → ℤ → ℤ
 multiplied w e = read (raised w e) *ℤ pos 78913
 
+-- .. and divided by 2^18, rounded down, is -j ..
 abbrev pub lessJ : Width → ℤ → ℤ
 lessJ w e = shrZ (read (multiplied w e)) (2 ^ 18)
 
+-- .. so that k is as much less.
 abbrev pub kOf : Width → ℤ → ℤ
 kOf w e = pos (w .tens - 1) -ℤ read (lessJ w e)
 
--- Less j, with m added, as a natural number: E is e with `off` added.
+-- -j with m added, as a natural number. E is e with `off` added.
 abbrev quotient : Width → ℕ → ℕ → ℕ
 quotient w m E = ((E + (w .N - 3)) * 78913 + (m * 2 ^ 18 - off w * 78913)) / 2 ^ 18
 
--- That it is less the smallest power that serves, as a test that computes.
+-- That j is the smallest whole number that serves, as a test that computes.
 abbrev pub test : Width → ℕ → ℕ → Test
 test w m E =
     let r = m + (w .tens + 7) - quotient w m E in
@@ -50,7 +53,7 @@ test w m E =
     and le (10 ^ (w .tens + 7) * 2 ^ (off w + 3)) (10 ^ r * 2 ^ (E + w .N))
     and lt (10 ^ (r - 1) * 2 ^ (E + w .N)) (10 ^ (w .tens + 7) * 2 ^ (off w + 3))
 
--- The smallest power is one.
+-- Only one number is the smallest.
 least-alone : (a b r s : ℕ) → Least a b r → a ≤ 10 ^ s * b → 10 ^ (s - 1) * b < a → 0 < s → r ≡ s
 least-alone a b r s l reached short some =
     le-antisymm (⊎-elim (λ less. absurd (omega (arith, l .smaller s less, reached))) (λ more. more) (which s r))
@@ -109,6 +112,7 @@ module _ {w : Width} {q m : ℕ} (sound : Sound w q) (small : Small w) (handy : 
   fourth =
       signed.apart (record { is = is-pos (w .tens - 1) (w .tens - 1) 0 (omega arith) }) (third .back) (omega (arith, j-is, small .sum, handy .few))
 
+  -- The code's steps give k.
   pub steps : Steps w e E
   steps =
       record {
@@ -118,14 +122,15 @@ module _ {w : Width} {q m : ℕ} (sound : Sound w q) (small : Small w) (handy : 
         is = also (jRaised w E) 8 (fourth .back) (omega (arith, j-is, sound .tens)) .is ∙ sym (k-raised w E (sound .tens) .is);
       }
 
--- k has an index, and is read as it was written.
 module _ {w : Width} {q : ℕ} (sound : Sound w q) (small : Small w) (E : ℕ) (finite : E ≤ allOnes w + w .S) where
   few : jRaised w E < 2 ^ 13
   few = omega (arith, j-inside w q sound E finite, small .sum)
 
+  -- k has an index.
   pub k-indexable : Indexable (k w E)
   k-indexable = record { raised = jRaised w E; is = k-raised w E (sound .tens) .is; few = few }
 
+  -- k is read as it was written.
   pub k-read : read (k w E) ≡ k w E
   k-read = unchanged (k-raised w E (sound .tens)) (omega (arith, few))
 
@@ -139,13 +144,14 @@ pub handy64 : Handy rules.w64 512
 unfolding rules.w64 off allOnes
 handy64 = record { few = lit≤ tt; whole = lit≤ tt; tested = tt }
 
--- The steps from k to the index are held, and the division rounds down.
+-- The steps from k to the index: each is held, and the division rounds down.
 pub record Floors (k : ℤ) : Type 0 where
   pub adds : SFits w32 (read (shrZ (read k) 8) +ℤ pos 1)
   pub natural : T (nonNeg (read (read (shrZ (read k) 8) +ℤ pos 1)))
   pub small : natAbs (read (read (shrZ (read k) 8) +ℤ pos 1)) < 2 ^ 31
   pub is : natAbs (read (read (shrZ (read k) 8) +ℤ pos 1)) ≡ natAbs (shrZ k 8 +ℤ pos 1)
 
+-- That is so for every k that has an index.
 pub floors : {k : ℤ} → Indexable k → Floors k
 floors {k} p =
     record {

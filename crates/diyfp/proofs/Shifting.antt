@@ -30,7 +30,7 @@ one-bit f k = ap (bitAnd f) alone ∙ and-high f 1 k
     alone : 2 ^ k ≡ 2 ^ (1 + k) - 2 ^ k
     alone = omega (arith, pow-add 2 1 k)
 
--- Whether bit k is set in a number of k + 1 bits.
+-- A number with bit k set is at least 2^k.
 pub top-set : (f k : ℕ) → (bitAnd f (2 ^ k) ≡ 0 → ⊥) → 2 ^ k ≤ f
 top-set f k set =
     ⊎-elim
@@ -39,6 +39,7 @@ top-set f k set =
     absurd (set (rw (one-bit, none) (omega arith))))
     (λ more. more) (which f (2 ^ k))
 
+-- A number of k + 1 bits with bit k not set is below 2^k.
 pub top-unset : (f k : ℕ) → f < 2 * 2 ^ k → bitAnd f (2 ^ k) ≡ 0 → f < 2 ^ k
 top-unset f k fits unset =
     ⊎-elim (λ less. less)
@@ -141,6 +142,7 @@ module _ {w : Width} {n : ℕ} {f₀ : ℕ} {e₀ : ℤ} (small : Small w) (p : 
         fits = rw (s .significand) (kind p m s .fits);
       }
 
+  -- A shift by d, to l bits.
   pub step : {k f : ℕ} {e : ℤ} → Kept w k f₀ e₀ f e → (l W d : ℕ) → 0 < d → l ≤ w .N → 2 ^ l ≤ W → f * 2 ^ d < 2 ^ l →
       Step w l W f₀ e₀ f d e
   step {k} {f} {e} kept l W d more room word fits =

@@ -1,11 +1,12 @@
 -- A pattern split by masks and shifts into its biased exponent and significand, and the pair that these make. Assumes nothing.
 use mathlib.Core.Path.{_≡_, ap, _∙_}
 use Prim.Native.Nat.{ℕ, _+_, _-_, _/_, _%_, _^_, _≤_, _<_}
+use native.Mathlib.Nat.{lt-of-le-of-lt}
 use native.Mathlib.Omega.{arith}
-use lib.Bits.{bitAnd, and-high}
+use lib.Bits.{bitAnd, and-high, and-le-r}
 use lib.Dec.{eqb, eqb→eq}
 use lib.IntN.{ℤ, pos, _-ℤ_}
-use lib.Pow.{shl-shr}
+use lib.Pow.{shl-shr, shr-mono}
 use mir.Facts.{eqb-no}
 use mir.Syntax.{w32}
 use mir.Val.{toZ}
@@ -20,11 +21,20 @@ use Rattle.diyfp.specs.Pairs.{Stands}
 pub field : (v j s : ℕ) → bitAnd v (2 ^ (j + s) - 2 ^ s) / 2 ^ s ≡ v / 2 ^ s % 2 ^ j
 field v j s = ap (λ (x : ℕ). x / 2 ^ s) (and-high v j s) ∙ shl-shr (v / 2 ^ s % 2 ^ j) s
 
+-- A number under any mask, shifted down, is at most the mask shifted down.
+pub masked-field : (v mask s : ℕ) {n : ℕ} → mask / 2 ^ s < n → bitAnd v mask / 2 ^ s < n
+masked-field v mask s small = lt-of-le-of-lt (shr-mono s (and-le-r v mask)) small
+
+-- A sum with a number under any mask is at most the sum with the mask.
+pub masked-sum : (v mask h : ℕ) {n : ℕ} → mask + h < n → bitAnd v mask + h < n
+masked-sum v mask h small = omega (arith, and-le-r v mask)
+
 -- A biased exponent b, less the bias, and then less s.
 pub record Unbiased (b bias s : ℕ) : Type 0 where
   pub once : Held (toZ w32 b -ℤ pos bias) b (0 + bias)
   pub twice : Held (read (toZ w32 b -ℤ pos bias) -ℤ pos s) b (0 + bias + s)
 
+-- An i32 holds both steps.
 pub unbiased : {b : ℕ} (bias s : ℕ) → b < 2 ^ 31 → bias + s ≤ 2 ^ 31 → Unbiased b bias s
 unbiased bias s small near =
     let first = less bias (natural small) (omega arith) in

@@ -128,6 +128,7 @@ impl DiyFp32 {
 }
 
 // k for an upper boundary's exponent e: j + 35, where j is the smallest whole number with 10^j >= 2^(-29 - e).
+// The fraction 78913 / 2^18 serves for log10(2).
 fn power_k32(e: i32) -> i32
     requires { ⌜ Served w32 e ⌝ }
     ensures { λ r. ⌜ ((E : ℕ) → e ≡ subℕ E (off w32) → r ≡ k w32 E) ⌝ }

@@ -136,6 +136,7 @@ impl DiyFp64 {
 }
 
 // k for an upper boundary's exponent e: j + 347, where j is the smallest whole number with 10^j >= 2^(-61 - e).
+// The fraction 78913 / 2^18 serves for log10(2).
 fn power_k64(e: i32) -> i32
     requires { ⌜ Served w64 e ⌝ }
     ensures { λ r. ⌜ ((E : ℕ) → e ≡ subℕ E (off w64) → r ≡ k w64 E) ⌝ }

@@ -66,10 +66,11 @@ minus a b = cases (λ z. negℤ z ≡ subℕ b a) a b (λ l. is-pos (suc (b - su
 pub bounded : (h a b : ℕ) → a < b + h → b ≤ a + h → mag (subℕ a b) < h
 bounded h a b l r = cases (λ z. mag z < h) a b (λ m. omega arith) (λ m. omega arith)
 
--- A natural number added to a difference, and taken from it.
+-- A natural number added to a difference.
 pub more : (a b n : ℕ) → subℕ a b +ℤ pos n ≡ subℕ (a + n) b
 more a b n = rw (is-pos n n 0 (add-zero n), add, add-zero)
 
+-- A natural number taken from a difference.
 pub less : (a b n : ℕ) → subℕ a b -ℤ pos n ≡ subℕ a (b + n)
 less a b n = rw (minus-pos n 0 n (add-zero n), add, add-zero)
 

@@ -37,6 +37,7 @@ pub record Apart (a b : ℕ) : Type 0 where
 pub small-apart : (a b : ℕ) → natAbs (subℕ a b) < 900 → Apart a b
 small-apart a b = differences.cases (λ z. natAbs z < 900 → Apart a b) a b (λ l h. omega arith) (λ l h. omega arith)
 
+-- The limits hold of any number that is such a difference.
 pub held : {z : ℤ} {a b : ℕ} → Is z a b → Apart a b → Held z a b
 held {z} {a} {b} p apart =
     let fits : SFits w32 z =
@@ -51,18 +52,23 @@ unchanged p near = held p near .back .is ∙ sym (p .is)
 pub natural : {n : ℕ} → n < 2 ^ 31 → Is (toZ w32 n) n 0
 natural {n} small = record { is = toZ-pos w32 small ∙ is-pos n n 0 (add-zero n) }
 
+-- An i32 holds a sum ..
 pub sum : {y z : ℤ} {a b c d : ℕ} → Is y a b → Is z c d → Apart (a + c) (b + d) → Held (y +ℤ z) (a + c) (b + d)
 sum {a = a} {b = b} {c = c} {d = d} p q = held (record { is = rw (p .is, q .is) (differences.add a b c d) })
 
+-- .. a sum with a natural number ..
 pub more : {y : ℤ} {a b : ℕ} (n : ℕ) → Is y a b → Apart (a + n) b → Held (y +ℤ pos n) (a + n) b
 more {a = a} {b = b} n p = held (record { is = rw (p .is) (differences.more a b n) })
 
+-- .. a difference with one ..
 pub less : {y : ℤ} {a b : ℕ} (n : ℕ) → Is y a b → Apart a (b + n) → Held (y -ℤ pos n) a (b + n)
 less {a = a} {b = b} n p = held (record { is = rw (p .is) (differences.less a b n) })
 
+-- .. a difference ..
 pub apart : {y z : ℤ} {a b c d : ℕ} → Is y a b → Is z c d → Apart (a + d) (b + c) → Held (y -ℤ z) (a + d) (b + c)
 apart {a = a} {b = b} {c = c} {d = d} p q = held (record { is = rw (p .is, q .is, differences.minus c d) (differences.add a b d c) })
 
+-- .. and a product with a natural number, wherever the two numbers that they come to are near enough.
 pub scaled : {y : ℤ} {a b : ℕ} (n : ℕ) → Is y a b → Apart (a * n) (b * n) → Held (y *ℤ pos n) (a * n) (b * n)
 scaled {a = a} {b = b} n p = held (record { is = rw (p .is) (differences.scaled a b n) })
 

@@ -1,30 +1,25 @@
 -- `diyfp::binary32::DiyFp32::from_bits` meets its contract. Assumes nothing.
 use borrow.Author.Needs.{needs}
 use mathlib.Core.Path.{refl}
-use Prim.Native.Nat.{ℕ, _/_, _^_}
-use native.Mathlib.Omega.{arith}
-use lib.Bits.{bitAnd, and-mask}
-use lib.Dec.{lit≤}
+use lib.Bits.{and-mask}
+use lib.Dec.{lit<, lit≤}
 use Rattle.rules.specs.Width.{w32}
 use Rattle.rules.specs.Pattern.{biased, significand}
-use Rattle.diyfp.proofs.Splitting.{field, Unbiased, unbiased, normal, subnormal}
+use Rattle.diyfp.proofs.Splitting.{field, masked-field, masked-sum, unbiased, normal, subnormal}
 use Rattle.diyfp.proofs.binary32.DiyFp32.from_bits.Statement.{statement}
 use Rattle.diyfp.proofs.binary32.DiyFp32.from_bits.Tie as tie
 
-exponent : (v : ℕ) → Unbiased (bitAnd v 0x7F80_0000 / 2 ^ 23) 127 23
-exponent v = unbiased 127 23 (omega (arith, field v 8 23)) (lit≤ tt)
-
 cast-biased-e : tie.Need-cast-biased-e
-cast-biased-e c = omega (arith, field (c .args .bits) 8 23)
+cast-biased-e c = record { sfits = masked-field (c .args .bits) _ 23 (lit< tt) }
 
 add-t8 : tie.Need-add-t8
-add-t8 c = omega (arith, and-mask (c .before .args .bits) 23)
+add-t8 c = record { fits = masked-sum (c .before .args .bits) _ _ (lit< tt) }
 
 sub-t9 : tie.Need-sub-t9
-sub-t9 c = exponent (c .before .args .bits) .once .fits
+sub-t9 c = unbiased 127 23 (masked-field (c .before .args .bits) _ 23 (lit< tt)) (lit≤ tt) .once .fits
 
 sub-t10 : tie.Need-sub-t10
-sub-t10 c = exponent (c .before .args .bits) .twice .fits
+sub-t10 c = unbiased 127 23 (masked-field (c .before .args .bits) _ 23 (lit< tt)) (lit≤ tt) .twice .fits
 
 sub-t11 : tie.Need-sub-t11
 sub-t11 c = search needs
@@ -36,7 +31,7 @@ returns : tie.Need-returns
 unfolding w32 biased significand
 returns c =
     let v = c .before .args .bits in
-    normal w32 v _ _ (field v 8 23) (and-mask v 23) (c .if1 .taken) (exponent v .twice .back)
+    normal w32 v _ _ (field v 8 23) (and-mask v 23) (c .if1 .taken) (unbiased 127 23 (masked-field v _ 23 (lit< tt)) (lit≤ tt) .twice .back)
 
 returns-2 : tie.Need-returns-2
 unfolding w32 biased significand

@@ -27,13 +27,13 @@ mul-bd : tie.Need-mul-bd
 mul-bd c = record { fits = parts (c .before .before .before .before) .low-low }
 
 add-tmp : tie.Need-add-tmp
-add-tmp c = omega (arith, parts (c .before .before .before .before) .column)
+add-tmp c = omega (arith, parts (c .before .before .before .before) .column 0 (lit≤ tt))
 
 add-tmp-2 : tie.Need-add-tmp-2
-add-tmp-2 c = omega (arith, parts (c .before .before .before .before) .column)
+add-tmp-2 c = omega (arith, parts (c .before .before .before .before) .column 0 (lit≤ tt))
 
 add-tmp-3 : tie.Need-add-tmp-3
-add-tmp-3 c = record { fits = parts (c .before .before .before .before) .column }
+add-tmp-3 c = record { fits = parts (c .before .before .before .before) .column _ (lit≤ tt) }
 
 add-t17 : tie.Need-add-t17
 add-t17 c = record { fits = parts (c .before .before .before .before) .two }
@@ -42,7 +42,7 @@ add-t15 : tie.Need-add-t15
 add-t15 c = record { fits = parts (c .before .before .before .before) .three }
 
 add-t13 : tie.Need-add-t13
-add-t13 c = record { fits = parts (c .before .before .before .before) .whole }
+add-t13 c = record { fits = parts (c .before .before .before .before) .whole _ (lit≤ tt) }
 
 add-t18 : tie.Need-add-t18
 add-t18 c = exponents (c .before .before .before .before .before .before .before .before) .once
