@@ -23,9 +23,9 @@ use Rattle.theorems.proofs.Scale.{Scales, finite-scales}
 use Rattle.theorems.proofs.Printable.{Printable}
 use Rattle.theorems.proofs.Decimal.{low-some, printed}
 use Rattle.diyfp.proofs.Small.{Small}
-use Rattle.dtoa.specs.Digits.{given, Ready, Generated}
+use Rattle.digits.specs.Digits.{given, Ready, Generated}
 use Rattle.dtoa.specs.Grisu.{ScaledTo, Decided}
-use Rattle.dtoa.proofs.Given.{given-first}
+use Rattle.digits.proofs.Given.{given-first}
 
 module _ {w : Width} {q : ℕ} (p : Printable w q) {m : Pair} (f : Finite w m) {h v delta x : ℕ} {k : ℤ} (s : ScaledTo w m h v delta x k) where
   facts : Scales w q m

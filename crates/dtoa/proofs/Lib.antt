@@ -1,16 +1,5 @@
-pub mod Counted
-pub mod Numerals
-pub mod Signs
-pub mod Falls
-pub mod Above
-pub mod Under
-pub mod First
-pub mod Given
 pub mod Scaling
 pub mod Deciding
-pub mod Cut
-pub mod Texts
-pub mod Ruled
 pub mod Masks
 pub mod Spelling
 pub mod Showing

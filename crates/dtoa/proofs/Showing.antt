@@ -29,7 +29,7 @@ use Rattle.theorems.proofs.Decimal.{printed}
 use Rattle.theorems.proofs.RoundTrip.{laid-text}
 use Rattle.theorems.proofs.TextLength.{layout-covers}
 use Rattle.dtoa.specs.Grisu.{Decided}
-use Rattle.dtoa.specs.Layout.{Laying}
+use Rattle.layout.specs.Layout.{Laying}
 
 -- A magnitude that is zero shows `0.0`.
 pub shows-zero : (w : Width) (m : Pair) → T (eqb (m .f) 0) → shown w m ≡ 48 ∷ 46 ∷ 48 ∷ []

@@ -6,7 +6,6 @@ ghost use Rattle.rules.specs.Width.{w32, w64};
 ghost use Rattle.rules.specs.Pattern.{magnitude};
 ghost use Rattle.theorems.proofs.Boundaries.{Finite};
 ghost use Rattle.dtoa.specs.Grisu.{ScaledTo, Decided};
-use crate::digits;
 use diyfp::DiyFp32;
 use diyfp::DiyFp64;
 

@@ -4,10 +4,7 @@ ghost use Rattle.rules.specs.Answer.{every, finiteOnly};
 ghost use Rattle.dtoa.specs.Meets.{Meets};
 
 mod bits;
-mod digits;
 mod grisu;
-mod layout;
-mod put;
 mod text;
 
 // How a call ended: printed, with the length of the text; or refused, with the buffer as it was.

@@ -11,8 +11,6 @@ ghost use Rattle.rules.specs.Text.{text, shown};
 ghost use Rattle.dtoa.specs.Spelled.{dash, name};
 use crate::bits;
 use crate::grisu;
-use crate::layout;
-use crate::put;
 
 // Puts three bytes at a place, and answers the place behind them.
 fn three(buf: &mut [u8], at: usize, a: u8, b: u8, c: u8) -> usize

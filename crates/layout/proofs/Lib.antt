@@ -1,0 +1,3 @@
+pub mod Cutting
+pub mod Texts
+pub mod Ruled
