@@ -6,8 +6,8 @@ use native.Mathlib.Omega.{arith}
 use lib.ListN.{length, getD, drop, replicate}
 use Rattle.rules.specs.Bytes.{bytes}
 use Rattle.rules.specs.Numbers.{countUpTo, count, numeral, plain}
-use Rattle.rules.specs.Tables.{raised, significands64, exponents64}
-use Rattle.rules.specs.Width.{w64, off}
+use Rattle.rules.specs.Tables.{raised, significands32, exponents32, significands64, exponents64}
+use Rattle.rules.specs.Width.{w32, w64, off}
 use Rattle.rules.specs.Pattern.{negative, biased, significand, allOnes, special, magnitude}
 use Rattle.rules.specs.Boundaries.{shifted, upper, below, lower, value}
 use Rattle.rules.specs.Power.{leastTen, jRaised, j, k, index, P}
@@ -65,6 +65,22 @@ not-guessed m = omega (arith, ap (λ (l : List ℕ). getD l 6 0) (m .bytes ∙ h
 -- One that tells a false length, with every byte right.
 pub not-false-length : (n : ℕ) → (n ≡ 7 → ⊥) → Meets every w64 e64 lent (Printed n) (bytes "2.71828" ++ drop 7 lent) → ⊥
 not-false-length n other m = other (ap (λ (a : Answer). a .len) (m .answers ∙ has-to-answer))
+
+-- 0.1 in binary32, and its text.
+abbrev pub tenth32 : ℕ
+tenth32 = 0x3dcccccd
+
+tenth32-text : text w32 tenth32 ≡ bytes "0.1"
+unfolding bytes countUpTo count numeral plain raised significands32 exponents32 w32 off negative biased significand allOnes special magnitude shifted upper below lower value leastTen jRaised j k index P product scaled D above under placesUnder places c first closer falls decimal zeros decimals exponent scientific byRule layout shown signed text
+tenth32-text = refl
+
+tenth32-answer : answer every w32 tenth32 (length lent) ≡ record { number = 0; len = 3 }
+unfolding answer number refuses bytes
+tenth32-answer = rw tenth32-text
+
+-- One that prints 32 bits by widening them to 64.
+pub not-widened : Meets every w32 tenth32 lent (Printed 19) (bytes "0.10000000149011612" ++ drop 19 lent) → ⊥
+not-widened m = omega (arith, ap (λ (a : Answer). a .len) (m .answers ∙ tenth32-answer))
 
 -- One that lets an infinity through the entry for finite patterns, or refuses it before the buffer is looked at.
 pub not-let-through : {last : List ℕ} (n : ℕ) → Meets finiteOnly w64 0x7ff0000000000000 lent (Printed n) last → ⊥

@@ -167,7 +167,10 @@ fn compare(fd: i32, line: &mut [u8]) -> Tally {
 fn summarize(t: Tally) {
     io::write_all(STDOUT_FILENO, b"replay: ");
     io::print_decimal(STDOUT_FILENO, t.lines as u64);
-    io::write_all(STDOUT_FILENO, b" patterns, each printed into 25 and into 4096 bytes: ");
+    io::write_all(
+        STDOUT_FILENO,
+        b" patterns, each printed into 25 and into 4096 bytes: ",
+    );
     io::print_decimal(STDOUT_FILENO, t.differences as u64);
     io::write_all(STDOUT_FILENO, b" differences\n");
 }

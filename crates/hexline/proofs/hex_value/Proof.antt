@@ -7,9 +7,6 @@ use borrow.Author.Needs.{needs}
 use Rattle.hexline.proofs.Digits.{Read, next-digit, in-word, read-on, read-end}
 use Rattle.hexline.proofs.hex_value.Statement.{statement}
 use Rattle.hexline.proofs.hex_value.Tie as tie
-use Rattle.hexline.proofs.hex_value.Reads as reads
-use Rattle.hexline.proofs.hex_value.Lts as lts
-use Rattle.hexline.proofs.hex_digit.Reads as hex-digit-reads
 
 abbrev Inv-loop : tie.InvT-loop
 Inv-loop line v₀ i₀ v i = Read line v i
@@ -17,49 +14,39 @@ Inv-loop line v₀ i₀ v i = Read line v i
 abbrev μ-loop : tie.MeasureT-loop
 μ-loop line v₀ i₀ v i = length line - i
 
--- src/lib.rt:62:5
 loop-holds : tie.Need-loop-holds Inv-loop μ-loop
 loop-holds c = record { within = omega arith; value = refl; small = omega arith; left = c .before .pre .1 }
 
--- src/lib.rt:63:13
 mul-v : tie.Need-mul-v Inv-loop μ-loop
 mul-v c = let a = c .before in omega (arith, in-word _ (a .loop .v) (a .loop .i) (a .loop .inv) (c .loop-test .taken) (a .before .before .pre .0))
 
--- src/lib.rt:63:32
 shared-slice-read-hex-digit : tie.Need-shared-slice-read-hex-digit Inv-loop μ-loop
 shared-slice-read-hex-digit c = search needs
 
--- src/lib.rt:63:22
 hex-digit-requires : tie.Need-hex-digit-requires Inv-loop μ-loop
 hex-digit-requires c κs = search needs
 
--- src/lib.rt:63:22
 cast-v : tie.Need-cast-v Inv-loop μ-loop
 cast-v c =
     let a = c .before .before .before in
     omega (arith, c .hex-digit .ensures, next-digit _ (a .loop .v) (a .loop .i) (a .loop .inv) (c .before .before .loop-test .taken))
 
--- src/lib.rt:63:13
 add-v : tie.Need-add-v Inv-loop μ-loop
 add-v c =
     let a = c .before .before .before in
     omega (arith, c .hex-digit .ensures, in-word _ (a .loop .v) (a .loop .i) (a .loop .inv) (c .before .before .loop-test .taken) (a .before .before .pre .0))
 
--- src/lib.rt:64:9
 add-i : tie.Need-add-i Inv-loop μ-loop
 add-i c = search needs
 
--- src/lib.rt:62:5
 loop-less : tie.Need-loop-less Inv-loop μ-loop
 loop-less c = omega arith
 
--- src/lib.rt:62:5
 loop-again : tie.Need-loop-again Inv-loop μ-loop
 loop-again c =
     let a = c .before .before .before in
     rw (c .hex-digit .ensures) (read-on _ (a .loop .v) (a .loop .i) (a .loop .inv) (c .before .before .loop-test .taken))
 
--- src/lib.rt:55:1
 returns : tie.Need-returns Inv-loop μ-loop
 returns c = let a = c .before in read-end _ (a .loop .v) (a .loop .i) (a .loop .inv) (c .loop-test .left)
 

@@ -9,16 +9,10 @@ use Rattle.hexline.specs.declared.Pattern.the-variants.{Single, Double}
 use borrow.Author.Needs.{needs}
 use Rattle.hexline.proofs.parse.Statement.{statement}
 use Rattle.hexline.proofs.parse.Tie as tie
-use Rattle.hexline.proofs.parse.Reads as reads
-use Rattle.hexline.proofs.parse.Lts as lts
-use Rattle.hexline.proofs.hex_value.Reads as hex-value-reads
-use Rattle.hexline.proofs.is_hex.Reads as is-hex-reads
 
--- src/lib.rt:73:9
 is-hex-requires : tie.Need-is-hex-requires
 is-hex-requires c κs = search needs
 
--- src/lib.rt:74:9
 all-digits : (c : tie.Else1) → allDigits (c .before .before .before .args .line .now) ≡ true
 all-digits c = sym (c .before .is-hex .ensures) ∙ not-false _ (c .if1 .left)
 
@@ -26,31 +20,25 @@ returns : tie.Need-returns
 unfolding patternOf
 returns c = rw (patternOf, sym (c .before .is-hex .ensures) ∙ not-true _ (c .if1 .taken))
 
--- src/lib.rt:77:32
 hex-value-requires : tie.Need-hex-value-requires
 hex-value-requires c κs = (omega (arith, c .if2 .taken), all-digits (c .before))
 
--- src/lib.rt:77:32
 cast-t6 : tie.Need-cast-t6
 cast-t6 c = omega (arith, c .hex-value .ensures .1, ap (λ (n : ℕ). 16 ^ n) (c .before .if2 .taken))
 
--- src/lib.rt:77:9
 returns-2 : tie.Need-returns-2
 unfolding patternOf
 returns-2 c = rw (patternOf, all-digits (c .before .before), eq-eqb _ 8 (c .before .if2 .taken)) (ap Single (c .hex-value .ensures .0))
 
--- src/lib.rt:80:32
 hex-value-requires-2 : tie.Need-hex-value-requires-2
 hex-value-requires-2 c κs = (omega (arith, c .if3 .taken), all-digits (c .before .before))
 
--- src/lib.rt:80:9
 returns-3 : tie.Need-returns-3
 unfolding patternOf
 returns-3 c =
     let other = c .before .before in
     rw (patternOf, all-digits (other .before), ne-eqb _ 8 (other .if2 .left), eq-eqb _ 16 (c .before .if3 .taken)) (ap Double (c .hex-value2 .ensures .0))
 
--- src/lib.rt:70:1
 returns-4 : tie.Need-returns-4
 unfolding patternOf
 returns-4 c =

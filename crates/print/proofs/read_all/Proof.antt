@@ -5,9 +5,6 @@ use lib.ListN.{length}
 use borrow.Author.Needs.{needs}
 use Rattle.print.proofs.read_all.Statement.{statement}
 use Rattle.print.proofs.read_all.Tie as tie
-use Rattle.print.proofs.read_all.Reads as reads
-use Rattle.print.proofs.read_all.Lts as lts
-use Rattle.print.proofs.read_some.Reads as read-some-reads
 
 abbrev Inv-loop : tie.InvT-loop
 Inv-loop line₀ at₀ turns₀ line at turns = length line ≡ length line₀
@@ -15,39 +12,30 @@ Inv-loop line₀ at₀ turns₀ line at turns = length line ≡ length line₀
 abbrev μ-loop : tie.MeasureT-loop
 μ-loop line₀ at₀ turns₀ line at turns = turns
 
--- src/main.rt:162:5
 loop-holds : tie.Need-loop-holds Inv-loop μ-loop
 loop-holds c = refl
 
--- src/main.rt:163:13
 read-some-requires : tie.Need-read-some-requires Inv-loop μ-loop
 read-some-requires c κs = search needs
 
--- src/main.rt:166:13
 same-length : tie.Need-same-length Inv-loop μ-loop
 same-length c = search needs
 
--- src/main.rt:166:13
 returns : tie.Need-returns Inv-loop μ-loop
 returns c = search needs
 
--- src/main.rt:168:9
 sub-turns : tie.Need-sub-turns Inv-loop μ-loop
 sub-turns c = omega arith
 
--- src/main.rt:162:5
 loop-less : tie.Need-loop-less Inv-loop μ-loop
 loop-less c = omega arith
 
--- src/main.rt:162:5
 loop-again : tie.Need-loop-again Inv-loop μ-loop
 loop-again c = search needs
 
--- src/main.rt:159:1
 same-length-2 : tie.Need-same-length-2 Inv-loop μ-loop
 same-length-2 c = search needs
 
--- src/main.rt:159:1
 returns-2 : tie.Need-returns-2 Inv-loop μ-loop
 returns-2 c = search needs
 

@@ -6,34 +6,25 @@ use lib.Seq.{length-take-le}
 use borrow.Author.Needs.{needs}
 use Rattle.print.proofs.with_line_end.Statement.{statement}
 use Rattle.print.proofs.with_line_end.Tie as tie
-use Rattle.print.proofs.with_line_end.Reads as reads
-use Rattle.print.proofs.with_line_end.Lts as lts
 
--- src/main.rt:43:26
 enum-known-o : tie.Need-enum-known-o
 enum-known-o c = search needs
 
--- src/main.rt:44:9
 returns : tie.Need-returns
 returns c = search needs
 
--- src/main.rt:47:9
 slice-write-text : tie.Need-slice-write-text
 slice-write-text c = search needs
 
--- src/main.rt:48:16
 add-result : tie.Need-add-result
 add-result c = search needs
 
--- src/main.rt:48:9
 same-length : tie.Need-same-length
 same-length c = search needs
 
--- src/main.rt:48:9
 returns-2 : tie.Need-returns-2
 returns-2 c = (simp length-set (omega (arith, c .if1 .taken)), sym (length-take-le _ _ (simp length-set (omega (arith, c .if1 .taken)))))
 
--- src/main.rt:40:1
 returns-3 : tie.Need-returns-3
 returns-3 c = search needs
 

