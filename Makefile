@@ -1,4 +1,4 @@
-# make run        prove the rules and show the proved examples, patterns and texts side by side
+# make run        prove and build the program print, and show patterns and their texts side by side
 # make test       the gate: the layout of every file, the archive called from C and Rust and held against the crate on a sample,
 #                 then all proofs, must-fail edits and programs from nothing
 # make test-c     call the archive from C, through include/dtoa.h
@@ -17,10 +17,10 @@
 export DTOA_LIB DTOA_SRC QUICK SEED REPORT
 
 run:
-	rt check
+	rt check print
 	@echo
-	@echo 'Patterns and the texts that they are proved to print:'
-	@sed -n 's/^ *∷ prints w\([0-9]*\) 0x\([0-9a-f]*\) "\(.*\)"$$/  f\1  \2  \3/p' crates/rules/proofs/Examples.antt
+	@echo 'Patterns, and their texts as the proved program prints them:'
+	@target/bin/print < examples/patterns.txt | paste examples/patterns.txt -
 
 test:
 	rt fmt --check
