@@ -1,4 +1,4 @@
--- `dtoa::digits::closer` meets its contract: each early answer settles the tests of the rule. Assumes nothing.
+-- `digits::closer` meets its contract: each early answer settles the tests of the rule. Assumes nothing.
 use native.Mathlib.Omega.{arith}
 use borrow.Author.Tests.{le-ltb, lt-ltb, le-leb, lt-leb}
 use Rattle.rules.specs.Digits.{closer}

@@ -1,4 +1,4 @@
--- `dtoa::digits::count_decimal_digit32` meets its contract: each test names the power of ten above the number. Assumes nothing.
+-- `digits::count_decimal_digit32` meets its contract: each test names the power of ten above the number. Assumes nothing.
 use lib.Dec.{lit≤}
 use Rattle.digits.proofs.Counted.{count-one, count-is, to-nine, nine}
 use Rattle.digits.proofs.count_decimal_digit32.Statement.{statement}

@@ -1,4 +1,4 @@
--- `dtoa::digits::digit_gen64` meets its contract. Assumes nothing.
+-- `digits::digit_gen64` meets its contract. Assumes nothing.
 use native.Mathlib.Omega.{arith}
 use mir.Facts.{toZ-ofZ}
 use mir.Syntax.{w32}

@@ -1,4 +1,4 @@
--- `dtoa::digits::distance_under` meets its contract. Assumes nothing.
+-- `digits::distance_under` meets its contract. Assumes nothing.
 use native.Mathlib.Omega.{arith}
 use borrow.Author.Tests.{le-leb, lt-leb}
 use Rattle.digits.specs.Digits.{distanceUnder}

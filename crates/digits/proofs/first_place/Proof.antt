@@ -1,4 +1,4 @@
--- `dtoa::digits::first_place` meets its contract. Assumes nothing.
+-- `digits::first_place` meets its contract. Assumes nothing.
 use mathlib.Core.Path.{ap, _∙_}
 use Prim.Native.Nat.{ℕ, _*_, _^_, _<_}
 use native.Mathlib.Nat.{one-mul, pow-le-pow-right, zero-lt-suc}

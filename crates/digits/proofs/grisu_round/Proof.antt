@@ -1,4 +1,4 @@
--- `dtoa::digits::grisu_round` meets its contract: the falls so far and those that are left are all of them. Assumes nothing.
+-- `digits::grisu_round` meets its contract: the falls so far and those that are left are all of them. Assumes nothing.
 use mathlib.Core.Bool.{true}
 use mathlib.Core.Path.{_≡_, sym, _∙_}
 use Prim.Native.Nat.{_-_}

@@ -1,4 +1,4 @@
--- `dtoa::digits::low_bits` meets its contract: a mask leaves a remainder. Assumes nothing.
+-- `digits::low_bits` meets its contract: a mask leaves a remainder. Assumes nothing.
 use mathlib.Core.Path.{_≡_, _∙_}
 use Prim.Native.Nat.{ℕ, _*_, _%_, _^_, _≤_}
 use native.Mathlib.Nat.{one-mul}

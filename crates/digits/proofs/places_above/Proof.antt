@@ -1,4 +1,4 @@
--- `dtoa::digits::places_above` meets its contract. Assumes nothing.
+-- `digits::places_above` meets its contract. Assumes nothing.
 use mathlib.Core.Path.{_≡_, _∙_}
 use Prim.Native.Nat.{suc, _-_}
 use native.Mathlib.Omega.{arith}

@@ -1,4 +1,4 @@
--- `dtoa::digits::places_under` meets its contract. Assumes nothing.
+-- `digits::places_under` meets its contract. Assumes nothing.
 use mathlib.Core.Path.{refl}
 use Prim.Native.Nat.{_-_}
 use native.Mathlib.Omega.{arith}
@@ -28,19 +28,19 @@ abbrev start : Turn → tie.Start Inv-loop μ-loop
 start c = c .before .before .before .before
 
 mul-tens : tie.Need-mul-tens Inv-loop μ-loop
-mul-tens c = omega (arith, rest-small (start c .pre) (c .before .loop .inv) (c .loop-test .taken))
+mul-tens c = omega (arith, rest-small (start c .pre) (c .before .loop .inv) (omega (arith, c .loop-test .taken)))
 
 shr-digit : tie.Need-shr-digit Inv-loop μ-loop
 shr-digit c = omega (arith, start (c .before) .pre .shift)
 
 cast-digit : tie.Need-cast-digit Inv-loop μ-loop
-cast-digit c = let a = c .before in omega (arith, digit-less (start a .pre) (a .before .loop .inv) (a .loop-test .taken))
+cast-digit c = let a = c .before in omega (arith, digit-less (start a .pre) (a .before .loop .inv) (omega (arith, a .loop-test .taken)))
 
 digit-requires : tie.Need-digit-requires Inv-loop μ-loop
 digit-requires c κs =
     let a = c .before in
     let so = a .before .loop .inv in
-    (omega (arith, kept (so .text), next-less (start a .pre) so (a .loop-test .taken)), digit-less (start a .pre) so (a .loop-test .taken))
+    (omega (arith, kept (so .text), next-less (start a .pre) so (omega (arith, a .loop-test .taken))), digit-less (start a .pre) so (omega (arith, a .loop-test .taken)))
 
 low-bits-requires-2 : tie.Need-low-bits-requires-2 Inv-loop μ-loop
 low-bits-requires-2 c κs = start (c .before .before .before .before) .pre .shift
@@ -48,22 +48,22 @@ low-bits-requires-2 c κs = start (c .before .before .before .before) .pre .shif
 mul-room : tie.Need-mul-room Inv-loop μ-loop
 mul-room c =
     let a = c .before .before .before .before .before in
-    omega (arith, rest-small (start a .pre) (a .before .loop .inv) (a .loop-test .taken), a .loop-test .taken)
+    omega (arith, rest-small (start a .pre) (a .before .loop .inv) (omega (arith, a .loop-test .taken)), a .loop-test .taken)
 
 add-down : tie.Need-add-down Inv-loop μ-loop
 add-down c =
     let a = c .before .before .before .before .before in
-    omega (arith, not-far (start a .pre) (a .before .loop .inv) (a .loop-test .taken), start a .pre .shift)
+    omega (arith, not-far (start a .pre) (a .before .loop .inv) (omega (arith, a .loop-test .taken)), start a .pre .shift)
 
 loop-less : tie.Need-loop-less Inv-loop μ-loop
 loop-less c =
     let a = c .before .before .before .before .before in
-    omega (arith, not-far (start a .pre) (a .before .loop .inv) (a .loop-test .taken))
+    omega (arith, not-far (start a .pre) (a .before .loop .inv) (omega (arith, a .loop-test .taken)))
 
 loop-again : tie.Need-loop-again Inv-loop μ-loop
 loop-again c =
     let a = c .before .before .before .before .before in
-    one-tried (start a .pre) (a .before .loop .inv) (a .loop-test .taken) (c .before .before .before .digit .ensures) (c .low-bits2 .ensures)
+    one-tried (start a .pre) (a .before .loop .inv) (omega (arith, a .loop-test .taken)) (c .before .before .before .digit .ensures) (c .low-bits2 .ensures)
 
 same-length : tie.Need-same-length Inv-loop μ-loop
 same-length c = kept (c .before .loop .inv .text)

@@ -1,4 +1,4 @@
--- `dtoa::digits::pow10` meets its contract. Assumes nothing.
+-- `digits::pow10` meets its contract. Assumes nothing.
 use mathlib.Core.Path.{_≡_, sym, ap}
 use Prim.Native.Nat.{ℕ, _^_}
 use native.Mathlib.Omega.{arith}

@@ -1,4 +1,4 @@
--- `dtoa::digits::split_digits` meets its contract. Assumes nothing.
+-- `digits::split_digits` meets its contract. Assumes nothing.
 use mathlib.Core.Path.{_≡_, refl, sym}
 use Prim.Native.Nat.{ℕ, _/_, _%_, _^_}
 use native.Mathlib.Nat.{div-one, mod-one}

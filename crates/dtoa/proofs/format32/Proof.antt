@@ -1,4 +1,5 @@
 -- `format32` meets its contract. Assumes nothing.
+use native.Mathlib.Omega.{arith}
 use Rattle.rules.specs.Width.{w32}
 use Rattle.rules.specs.Answer.{every, refuses}
 use Rattle.dtoa.proofs.Outcomes.{too-short, printed}
@@ -7,7 +8,7 @@ use Rattle.dtoa.proofs.format32.Statement.{statement}
 use Rattle.dtoa.proofs.format32.Tie as tie
 
 returns : tie.Need-returns
-returns c = too-short every w32 _ _ (c .if1 .taken)
+returns c = too-short every w32 _ _ (omega (arith, c .if1 .taken))
 
 print32-requires : tie.Need-print32-requires
 print32-requires c κs = search needs

@@ -1,4 +1,5 @@
 -- `format64` meets its contract. Assumes nothing.
+use native.Mathlib.Omega.{arith}
 use Rattle.rules.specs.Width.{w64}
 use Rattle.rules.specs.Answer.{every, refuses}
 use Rattle.dtoa.proofs.Outcomes.{too-short, printed}
@@ -7,7 +8,7 @@ use Rattle.dtoa.proofs.format64.Statement.{statement}
 use Rattle.dtoa.proofs.format64.Tie as tie
 
 returns : tie.Need-returns
-returns c = too-short every w64 _ _ (c .if1 .taken)
+returns c = too-short every w64 _ _ (omega (arith, c .if1 .taken))
 
 print64-requires : tie.Need-print64-requires
 print64-requires c κs = search needs

@@ -1,4 +1,5 @@
 -- `format_finite32` meets its contract. Assumes nothing.
+use native.Mathlib.Omega.{arith}
 use Rattle.rules.specs.Width.{w32}
 use Rattle.rules.specs.Answer.{finiteOnly, refuses}
 use Rattle.dtoa.proofs.Outcomes.{too-short, not-finite, printed}
@@ -8,7 +9,7 @@ use Rattle.dtoa.proofs.format_finite32.Statement.{statement}
 use Rattle.dtoa.proofs.format_finite32.Tie as tie
 
 returns : tie.Need-returns
-returns c = too-short finiteOnly w32 _ _ (c .if1 .taken)
+returns c = too-short finiteOnly w32 _ _ (omega (arith, c .if1 .taken))
 
 is-special32-requires : tie.Need-is-special32-requires
 is-special32-requires c κs = search needs

@@ -1,4 +1,5 @@
 -- `format_finite64` meets its contract. Assumes nothing.
+use native.Mathlib.Omega.{arith}
 use Rattle.rules.specs.Width.{w64}
 use Rattle.rules.specs.Answer.{finiteOnly, refuses}
 use Rattle.dtoa.proofs.Outcomes.{too-short, not-finite, printed}
@@ -8,7 +9,7 @@ use Rattle.dtoa.proofs.format_finite64.Statement.{statement}
 use Rattle.dtoa.proofs.format_finite64.Tie as tie
 
 returns : tie.Need-returns
-returns c = too-short finiteOnly w64 _ _ (c .if1 .taken)
+returns c = too-short finiteOnly w64 _ _ (omega (arith, c .if1 .taken))
 
 is-special64-requires : tie.Need-is-special64-requires
 is-special64-requires c κs = search needs

@@ -1,4 +1,4 @@
--- `dtoa::layout::cut` meets its contract: zeros at the end go one after the other. Assumes nothing.
+-- `layout::cut` meets its contract: zeros at the end go one after the other. Assumes nothing.
 use mathlib.Core.Path.{_≡_, sym, ap, _∙_}
 use Prim.Native.Nat.{_+_, _-_, _<_}
 use native.Mathlib.Omega.{arith}

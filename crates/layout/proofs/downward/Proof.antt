@@ -1,4 +1,4 @@
--- `dtoa::layout::downward` meets its contract: rules 2 to 6. Assumes nothing.
+-- `layout::downward` meets its contract: rules 2 to 6. Assumes nothing.
 use mathlib.Core.Path.{_≡_, sym}
 use Prim.Native.Nat.{ℕ, _+_, _-_, _^_, _<_}
 use native.Mathlib.Omega.{arith}

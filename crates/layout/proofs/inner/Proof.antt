@@ -1,4 +1,4 @@
--- `dtoa::layout::inner` meets its contract. Assumes nothing.
+-- `layout::inner` meets its contract. Assumes nothing.
 use native.Mathlib.Omega.{arith}
 use Rattle.layout.proofs.Texts.{inner-text}
 use Rattle.layout.proofs.inner.Statement.{statement}

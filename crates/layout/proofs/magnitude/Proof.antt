@@ -1,4 +1,4 @@
--- `dtoa::layout::magnitude` meets its contract. Assumes nothing.
+-- `layout::magnitude` meets its contract. Assumes nothing.
 use mathlib.Core.Path.{_≡_}
 use Prim.Native.Nat.{_^_, _<_}
 use native.Mathlib.Omega.{arith}

@@ -1,4 +1,4 @@
--- `dtoa::layout::prettify` meets its contract: an exponent is below zero or not. Assumes nothing.
+-- `layout::prettify` meets its contract: an exponent is below zero or not. Assumes nothing.
 use mathlib.Core.Bool.{true}
 use mathlib.Core.Path.{_≡_, sym}
 use native.Mathlib.Omega.{arith}

@@ -1,4 +1,4 @@
--- `dtoa::layout::put_exponent` meets its contract. Assumes nothing.
+-- `layout::put_exponent` meets its contract. Assumes nothing.
 use native.Mathlib.Omega.{arith}
 use mir.Facts.{toZ-ofZ}
 use Rattle.laws.proofs.Puts.{then, part}

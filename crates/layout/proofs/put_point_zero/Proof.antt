@@ -1,4 +1,4 @@
--- `dtoa::layout::put_point_zero` meets its contract. Assumes nothing.
+-- `layout::put_point_zero` meets its contract. Assumes nothing.
 use native.Mathlib.Omega.{arith}
 use Rattle.laws.proofs.Puts.{then}
 use Rattle.rules.specs.Bytes.{bytes}

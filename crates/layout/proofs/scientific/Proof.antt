@@ -1,4 +1,4 @@
--- `dtoa::layout::scientific` meets its contract. Assumes nothing.
+-- `layout::scientific` meets its contract. Assumes nothing.
 use native.Mathlib.Omega.{arith}
 use mir.Facts.{toZ-ofZ}
 use Rattle.laws.proofs.Puts.{kept, moved-end}

@@ -1,4 +1,4 @@
--- `dtoa::layout::small` meets its contract. Assumes nothing.
+-- `layout::small` meets its contract. Assumes nothing.
 use native.Mathlib.Omega.{arith}
 use Rattle.layout.proofs.Texts.{small-text}
 use Rattle.layout.proofs.small.Statement.{statement}

@@ -1,4 +1,4 @@
--- `dtoa::layout::upward` meets its contract: rules 1, 5 and 6. Assumes nothing.
+-- `layout::upward` meets its contract: rules 1, 5 and 6. Assumes nothing.
 use mathlib.Core.Path.{_≡_}
 use Prim.Native.Nat.{_+_, _-_}
 use native.Mathlib.Omega.{arith}

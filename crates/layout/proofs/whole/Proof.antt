@@ -1,4 +1,4 @@
--- `dtoa::layout::whole` meets its contract. Assumes nothing.
+-- `layout::whole` meets its contract. Assumes nothing.
 use native.Mathlib.Omega.{arith}
 use lib.ListN.{length-replicate}
 use Rattle.laws.proofs.Puts.{kept, standing, then}

@@ -1,4 +1,4 @@
--- `dtoa::layout::write_exponent` meets its contract: the sign first, then the digits. Assumes nothing.
+-- `layout::write_exponent` meets its contract: the sign first, then the digits. Assumes nothing.
 use mathlib.Core.Path.{_≡_}
 use native.Mathlib.Omega.{arith}
 use lib.IntN.{natAbs}

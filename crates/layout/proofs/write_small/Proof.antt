@@ -1,4 +1,4 @@
--- `dtoa::layout::write_small` meets its contract: the digits one after the other are the number's numeral. Assumes nothing.
+-- `layout::write_small` meets its contract: the digits one after the other are the number's numeral. Assumes nothing.
 use mathlib.Core.Path.{refl}
 use native.Mathlib.Omega.{arith}
 use Rattle.digits.proofs.Counted.{count-one, count-is}

@@ -1,4 +1,4 @@
--- `dtoa::put::byte` meets its contract. Assumes nothing.
+-- `put::byte` meets its contract. Assumes nothing.
 use native.Mathlib.Omega.{arith}
 use borrow.Author.Needs.{needs}
 use Rattle.laws.proofs.Puts.{one}

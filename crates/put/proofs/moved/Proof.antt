@@ -1,4 +1,4 @@
--- `dtoa::put::moved` meets its contract: what has moved is put already, and what has not is as it was. Assumes nothing.
+-- `put::moved` meets its contract: what has moved is put already, and what has not is as it was. Assumes nothing.
 use mathlib.Core.Path.{_≡_}
 use Prim.Native.Nat.{_+_, _≤_}
 use native.Mathlib.Omega.{arith}

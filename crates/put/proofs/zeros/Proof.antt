@@ -1,4 +1,4 @@
--- `dtoa::put::zeros` meets its contract: one zero more with each turn. Assumes nothing.
+-- `put::zeros` meets its contract: one zero more with each turn. Assumes nothing.
 use mathlib.Core.Path.{_≡_, refl}
 use mathlib.Core.List.{List, [], _∷_}
 use Prim.Native.Nat.{ℕ, _+_, _-_, _≤_}
