@@ -1,6 +1,6 @@
 # make run        prove and build the program print, and show patterns and their texts side by side
-# make test       the gate: the layout of every file, the archive called from C and Rust and held against the crate on a sample,
-#                 then all proofs, must-fail edits and programs from nothing
+# make test       the gate: the layout of every file, then `rt ci`, all proofs, must-fail edits and programs from nothing, and beside
+#                 it the archive called from C and Rust and held against the crate on a sample
 # make test-c     call the archive from C, through include/dtoa.h
 # make test-rust  call the archive from Rust, through bindings/rust
 # make compare    call the archive and the unchanged crate with the same patterns: all of f32, and 500 million random ones of f64
@@ -24,9 +24,7 @@ run:
 
 test:
 	rt fmt --check
-	$(if $(DTOA_LIB),,rt staticlib dtoa_c)
-	@$(MAKE) --no-print-directory QUICK=1 REPORT= DTOA_LIB=$(or $(DTOA_LIB),target/staticlib) test-c test-rust compare
-	rt ci
+	tools/gate.sh
 
 test-c:
 	@tests/c/run.sh
