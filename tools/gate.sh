@@ -8,6 +8,8 @@
 set -eu
 cd "$(dirname "$0")/.."
 
+# Four at a time also on two cores: crates and edits differ in length, and rt waits for the longest of those it has started.
+export RT_JOBS="${RT_JOBS:-4}"
 work=$(mktemp -d)
 trap 'rm -rf "$work"' EXIT
 rm -rf target

@@ -21,7 +21,7 @@ use Rattle.rules.specs.Boundaries.{shifted, upper, below, lower}
 use Rattle.theorems.proofs.Boundaries.{Finite, apart, upper-shifted, value-shifted, below-exponent}
 use Rattle.theorems.proofs.Widths.{Sound}
 use Rattle.diyfp.specs.Pairs.{Stands, StandsIn, Becomes, Shiftable, Bounds}
-use Rattle.diyfp.proofs.Small.{Small}
+use Rattle.powers.proofs.Small.{Small}
 use Rattle.diyfp.proofs.Standing.{kind}
 
 -- Twice the significand and one has one bit more, and can be shifted.

@@ -22,8 +22,8 @@ use Rattle.theorems.proofs.Widths.{Sound}
 use Rattle.theorems.proofs.Boundaries.{Finite, exponent-most}
 use Rattle.theorems.proofs.Power.{Reach, reach}
 use Rattle.diyfp.specs.Pairs.{Stands, StandsIn, Shiftable, Near, Times}
-use Rattle.diyfp.specs.Powers.{Served, Cached}
-use Rattle.diyfp.proofs.Small.{Small}
+use Rattle.powers.specs.Powers.{Served, Cached}
+use Rattle.powers.proofs.Small.{Small}
 
 -- A number near zero is read from an i32 as it was written.
 pub near-read : {z : ℤ} → Near z → read z ≡ z

@@ -1,10 +1,6 @@
-pub mod Small
 pub mod Standing
 pub mod Splitting
 pub mod Shifting
 pub mod Bounding
 pub mod Multiplying
-pub mod Slopes
-pub mod Indexing
-pub mod Caching
 pub mod Chaining

@@ -20,7 +20,7 @@ use Rattle.rules.specs.Pattern.{Pair}
 use Rattle.rules.specs.Boundaries.{shifted}
 use Rattle.theorems.proofs.Boundaries.{Shifted, shifts, no-further}
 use Rattle.diyfp.specs.Pairs.{Stands, StandsIn, Becomes, Shiftable}
-use Rattle.diyfp.proofs.Small.{Small}
+use Rattle.powers.proofs.Small.{Small}
 use Rattle.diyfp.proofs.Standing.{kind}
 
 -- One bit of a number, by itself.

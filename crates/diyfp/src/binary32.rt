@@ -1,15 +1,13 @@
 // Pairs with 32 bits for the significand: from a binary32 pattern to its boundaries and the power that scales them.
-use crate::tables;
 ghost use mathlib.Core.Path.{_≡_};
 ghost use Prim.Native.Nat.{ℕ};
 ghost use lib.IntN.{subℕ};
 ghost use Rattle.rules.specs.Width.{w32, off};
 ghost use Rattle.rules.specs.Pattern.{magnitude};
 ghost use Rattle.rules.specs.Boundaries.{shifted, below};
-ghost use Rattle.rules.specs.Power.{k};
 ghost use Rattle.theorems.proofs.Boundaries.{Finite};
 ghost use Rattle.diyfp.specs.Pairs.{Stands, StandsIn, Becomes, Shiftable, Bounds, Near, Times};
-ghost use Rattle.diyfp.specs.Powers.{Served, Cached};
+ghost use Rattle.powers.specs.Powers.{Served, Cached};
 
 // The number f * 2^e, with 32 bits for f.
 pub struct DiyFp32 {
@@ -127,24 +125,15 @@ impl DiyFp32 {
     }
 }
 
-// k for an upper boundary's exponent e: j + 35, where j is the smallest whole number with 10^j >= 2^(-29 - e).
-// The fraction 78913 / 2^18 serves for log10(2).
-fn power_k32(e: i32) -> i32
-    requires { ⌜ Served w32 e ⌝ }
-    ensures { λ r. ⌜ ((E : ℕ) → e ≡ subℕ E (off w32) → r ≡ k w32 E) ⌝ }
-{
-    35 - (((e + 29) * 78913) >> 18)
-}
-
 // The power of ten that scales an upper boundary of exponent e.
 pub fn get_cached_power32(e: i32) -> CachedPower32
     requires { ⌜ Served w32 e ⌝ }
     ensures { λ r. ⌜ ((E : ℕ) → e ≡ subℕ E (off w32) → Cached w32 E (r .power .f) (r .power .e) (r .k)) ⌝ }
 {
-    let index = tables::index_of(power_k32(e));
+    let index = powers::index_of(powers::power_k32(e));
     let power = DiyFp32 {
-        f: tables::significand32(index),
-        e: tables::exponent32(index),
+        f: powers::significand32(index),
+        e: powers::exponent32(index),
     };
     CachedPower32 {
         power,

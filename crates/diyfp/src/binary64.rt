@@ -1,15 +1,13 @@
 // Pairs with 64 bits for the significand: from a binary64 pattern to its boundaries and the power that scales them.
-use crate::tables;
 ghost use mathlib.Core.Path.{_≡_};
 ghost use Prim.Native.Nat.{ℕ};
 ghost use lib.IntN.{subℕ};
 ghost use Rattle.rules.specs.Width.{w64, off};
 ghost use Rattle.rules.specs.Pattern.{magnitude};
 ghost use Rattle.rules.specs.Boundaries.{shifted, below};
-ghost use Rattle.rules.specs.Power.{k};
 ghost use Rattle.theorems.proofs.Boundaries.{Finite};
 ghost use Rattle.diyfp.specs.Pairs.{Stands, StandsIn, Becomes, Shiftable, Bounds, Near, Times};
-ghost use Rattle.diyfp.specs.Powers.{Served, Cached};
+ghost use Rattle.powers.specs.Powers.{Served, Cached};
 
 // The number f * 2^e, with 64 bits for f.
 pub struct DiyFp64 {
@@ -135,24 +133,15 @@ impl DiyFp64 {
     }
 }
 
-// k for an upper boundary's exponent e: j + 347, where j is the smallest whole number with 10^j >= 2^(-61 - e).
-// The fraction 78913 / 2^18 serves for log10(2).
-fn power_k64(e: i32) -> i32
-    requires { ⌜ Served w64 e ⌝ }
-    ensures { λ r. ⌜ ((E : ℕ) → e ≡ subℕ E (off w64) → r ≡ k w64 E) ⌝ }
-{
-    347 - (((e + 61) * 78913) >> 18)
-}
-
 // The power of ten that scales an upper boundary of exponent e.
 pub fn get_cached_power64(e: i32) -> CachedPower64
     requires { ⌜ Served w64 e ⌝ }
     ensures { λ r. ⌜ ((E : ℕ) → e ≡ subℕ E (off w64) → Cached w64 E (r .power .f) (r .power .e) (r .k)) ⌝ }
 {
-    let index = tables::index_of(power_k64(e));
+    let index = powers::index_of(powers::power_k64(e));
     let power = DiyFp64 {
-        f: tables::significand64(index),
-        e: tables::exponent64(index),
+        f: powers::significand64(index),
+        e: powers::exponent64(index),
     };
     CachedPower64 {
         power,

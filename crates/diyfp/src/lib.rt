@@ -1,7 +1,6 @@
-// Pairs of a significand and a binary exponent, f * 2^e, with 32 and with 64 bits for f, and the cached powers of ten.
+// Pairs of a significand and a binary exponent, f * 2^e, with 32 and with 64 bits for f, and the cached power of ten that scales them.
 pub mod binary32;
 pub mod binary64;
-mod tables;
 
 pub use binary32::Boundaries32;
 pub use binary32::CachedPower32;

@@ -1,8 +1,3 @@
-pub mod Scaling
-pub mod Deciding
-pub mod Masks
-pub mod Spelling
-pub mod Showing
 pub mod Outcomes
 pub mod Unique
 pub mod Idle

@@ -3,10 +3,6 @@ ghost use Rattle.rules.specs.Width.{w32, w64};
 ghost use Rattle.rules.specs.Answer.{every, finiteOnly};
 ghost use Rattle.dtoa.specs.Meets.{Meets};
 
-mod bits;
-mod grisu;
-mod text;
-
 // How a call ended: printed, with the length of the text; or refused, with the buffer as it was.
 pub enum Outcome {
     Printed(usize),
@@ -44,7 +40,7 @@ pub fn format_finite32(bits: u32, buf: &mut [u8]) -> Outcome
     if buf.len() < ROOM {
         return Outcome::TooShort;
     }
-    if bits::is_special32(bits) {
+    if text::bits::is_special32(bits) {
         return Outcome::NotFinite;
     }
     Outcome::Printed(text::print32(bits, buf))
@@ -57,7 +53,7 @@ pub fn format_finite64(bits: u64, buf: &mut [u8]) -> Outcome
     if buf.len() < ROOM {
         return Outcome::TooShort;
     }
-    if bits::is_special64(bits) {
+    if text::bits::is_special64(bits) {
         return Outcome::NotFinite;
     }
     Outcome::Printed(text::print64(bits, buf))

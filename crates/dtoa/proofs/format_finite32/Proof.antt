@@ -3,7 +3,7 @@ use native.Mathlib.Omega.{arith}
 use Rattle.rules.specs.Width.{w32}
 use Rattle.rules.specs.Answer.{finiteOnly, refuses}
 use Rattle.dtoa.proofs.Outcomes.{too-short, not-finite, printed}
-use Rattle.dtoa.proofs.Spelling.{found, found-not}
+use Rattle.text.proofs.Spelling.{found, found-not}
 use borrow.Author.Needs.{needs}
 use Rattle.dtoa.proofs.format_finite32.Statement.{statement}
 use Rattle.dtoa.proofs.format_finite32.Tie as tie

@@ -3,7 +3,7 @@ use native.Mathlib.Omega.{arith}
 use Rattle.rules.specs.Width.{w64}
 use Rattle.rules.specs.Answer.{finiteOnly, refuses}
 use Rattle.dtoa.proofs.Outcomes.{too-short, not-finite, printed}
-use Rattle.dtoa.proofs.Spelling.{found, found-not}
+use Rattle.text.proofs.Spelling.{found, found-not}
 use borrow.Author.Needs.{needs}
 use Rattle.dtoa.proofs.format_finite64.Statement.{statement}
 use Rattle.dtoa.proofs.format_finite64.Tie as tie

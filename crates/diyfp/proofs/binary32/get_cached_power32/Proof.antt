@@ -4,8 +4,8 @@ use native.Mathlib.Omega.{arith}
 use Rattle.rules.specs.Tables.{significands32}
 use Rattle.rules.specs.Width.{w32}
 use Rattle.theorems.proofs.Widths.{sound32}
-use Rattle.diyfp.proofs.Small.{small32}
-use Rattle.diyfp.proofs.Caching.{served, has-index, inside, eightfold, decimal-held, cached}
+use Rattle.powers.proofs.Small.{small32}
+use Rattle.powers.proofs.Caching.{served, has-index, inside, eightfold, decimal-held, cached}
 use Rattle.diyfp.proofs.binary32.get_cached_power32.Statement.{statement}
 use Rattle.diyfp.proofs.binary32.get_cached_power32.Tie as tie
 

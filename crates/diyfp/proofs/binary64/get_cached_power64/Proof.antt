@@ -4,8 +4,8 @@ use native.Mathlib.Omega.{arith}
 use Rattle.rules.specs.Tables.{significands64}
 use Rattle.rules.specs.Width.{w64}
 use Rattle.theorems.proofs.Widths.{sound64}
-use Rattle.diyfp.proofs.Small.{small64}
-use Rattle.diyfp.proofs.Caching.{served, has-index, inside, eightfold, decimal-held, cached}
+use Rattle.powers.proofs.Small.{small64}
+use Rattle.powers.proofs.Caching.{served, has-index, inside, eightfold, decimal-held, cached}
 use Rattle.diyfp.proofs.binary64.get_cached_power64.Statement.{statement}
 use Rattle.diyfp.proofs.binary64.get_cached_power64.Tie as tie
 

@@ -6,7 +6,7 @@ use lib.Dec.{lit≤}
 use Rattle.rules.specs.Width.{w32}
 use Rattle.rules.specs.Pattern.{Pair}
 use Rattle.diyfp.specs.Pairs.{Stands}
-use Rattle.diyfp.proofs.Small.{small32}
+use Rattle.powers.proofs.Small.{small32}
 use Rattle.diyfp.proofs.Bounding.{falls, multiple, hidden, other}
 use Rattle.diyfp.proofs.binary32.DiyFp32.below.Statement.{statement}
 use Rattle.diyfp.proofs.binary32.DiyFp32.below.Tie as tie

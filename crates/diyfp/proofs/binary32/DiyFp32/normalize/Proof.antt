@@ -4,7 +4,7 @@ use Prim.Native.Nat.{_-_, _^_}
 use lib.Bits.{bitAnd}
 use lib.Dec.{lit<, lit≤}
 use Rattle.rules.specs.Width.{w32}
-use Rattle.diyfp.proofs.Small.{small32}
+use Rattle.powers.proofs.Small.{small32}
 use Rattle.diyfp.proofs.Shifting.{Kept, Step, begins, turn, ends, top-set}
 use Rattle.diyfp.proofs.binary32.DiyFp32.normalize.Statement.{statement}
 use Rattle.diyfp.proofs.binary32.DiyFp32.normalize.Tie as tie

@@ -6,7 +6,7 @@ use lib.Dec.{lit≤}
 use Rattle.rules.specs.Width.{w64}
 use Rattle.rules.specs.Pattern.{Pair}
 use Rattle.diyfp.specs.Pairs.{Stands}
-use Rattle.diyfp.proofs.Small.{small64}
+use Rattle.powers.proofs.Small.{small64}
 use Rattle.diyfp.proofs.Bounding.{falls, multiple, hidden, other}
 use Rattle.diyfp.proofs.binary64.DiyFp64.below.Statement.{statement}
 use Rattle.diyfp.proofs.binary64.DiyFp64.below.Tie as tie

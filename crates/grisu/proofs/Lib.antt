@@ -1,0 +1,2 @@
+pub mod Scaling
+pub mod Deciding

@@ -1,0 +1,4 @@
+pub mod Small
+pub mod Slopes
+pub mod Indexing
+pub mod Caching

@@ -1,0 +1,3 @@
+pub mod Masks
+pub mod Spelling
+pub mod Showing
