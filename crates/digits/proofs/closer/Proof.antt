@@ -1,4 +1,5 @@
 -- `digits::closer` meets its contract: each early answer settles the tests of the rule. Assumes nothing.
+use Prim.Native.Nat.{_-_}
 use native.Mathlib.Omega.{arith}
 use borrow.Author.Tests.{le-ltb, lt-ltb, le-leb, lt-leb}
 use Rattle.rules.specs.Digits.{closer}
@@ -14,7 +15,9 @@ sub-if2 c = omega arith
 
 returns-2 : tie.Need-returns-2
 unfolding closer
-returns-2 c = simp (lt-ltb _ _ (c .before .if1 .left), lt-leb _ _ (c .if2 .taken))
+returns-2 c =
+    let a = c .before .before .args in
+    simp (lt-ltb _ _ (c .before .if1 .left), lt-leb (a .unit) (a .room - a .rest) (omega (arith, c .if2 .taken)))
 
 add-next : tie.Need-add-next
 add-next c = omega arith

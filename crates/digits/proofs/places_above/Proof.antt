@@ -89,7 +89,8 @@ loop-less c = omega arith
 loop-again : tie.Need-loop-again Inv-loop μ-loop
 loop-again c =
     let a = c .before .before .before .before .before .before in
-    next-turn (start a .pre) (began a) (a .split-digits .ensures) (c .before .before .before .before .digit .ensures) (c .before .shifted .ensures) (c .if1 .left)
+    next-turn (start a .pre) (began a) (a .split-digits .ensures) (c .before .before .before .before .digit .ensures) (c .before .shifted .ensures)
+    (omega (arith, c .if1 .left))
 
 same-length-2 : tie.Need-same-length-2 Inv-loop μ-loop
 same-length-2 c = kept (c .before .loop .inv .tried .text)
