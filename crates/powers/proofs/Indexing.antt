@@ -6,7 +6,7 @@ use native.Mathlib.Nat.{le-antisymm, mul-le-mul-right}
 use native.Mathlib.Omega.{arith}
 use lib.Dec.{T, lit<, lit≤}
 use lib.IntN.{ℤ, pos, natAbs, subℕ, _+ℤ_, _-ℤ_, _*ℤ_}
-use lib.Signed.{nonNeg, shrZ}
+use lib.Signed.{nonNeg, shrZ, quotZ}
 use mir.Syntax.{w32}
 use mir.Val.{SFits}
 use Rattle.laws.proofs.Branches.{which}
@@ -181,3 +181,7 @@ floors {k} p =
 
     natural : read (shrZ k 8 +ℤ pos 1) ≡ pos (p .raised / 8)
     natural = at-least (next .back) (omega arith) ∙ ap pos (omega arith)
+
+-- A quotient toward zero asks for another entry: for the second and not the first at k = -1.
+pub not-toward-zero : natAbs (quotZ (subℕ 0 1) (pos 8) +ℤ pos 1) ≡ natAbs (shrZ (subℕ 0 1) 8 +ℤ pos 1) → ⊥
+not-toward-zero e = omega (arith, e)
