@@ -3,7 +3,7 @@
 #
 # rt ci proves every crate from nothing. Once it has proved dtoa_c, the archive is built over a copy of the proved libraries, so
 # that no crate below it is proved twice, and its tests run while rt ci tries the edits. What rt ci says is shown as it comes, but
-# for its last line, `N passed, M failed`, which waits for the archive's tests. Where those fail, they have the last word.
+# for its last line, `N passed, M failed`, which waits for the archive's tests. Where those alone fail, they have the last word.
 # DTOA_LIB=FOLDER tests the archive in that folder, and builds none.
 set -eu
 cd "$(dirname "$0")/.."
@@ -37,9 +37,10 @@ build_archive() {
 test_archive() {
     wait_for_proofs
     if [ -z "${DTOA_LIB:-}" ]; then build_archive; fi
+    export QUICK=1 REPORT=
     tests/c/run.sh
     bindings/rust/test.sh
-    QUICK=1 REPORT='' tools/compare/run.sh
+    tools/compare/run.sh
 }
 
 test_archive >"$work/archive" 2>&1 &
@@ -53,8 +54,9 @@ archive=$!
 tested=0
 wait "$archive" || tested=$?
 cat "$work/archive" "$work/verdict"
-if [ "$tested" -ne 0 ]; then
+proved=$(cat "$work/status")
+if [ "$proved" -eq 0 ] && [ "$tested" -ne 0 ]; then
     echo 'gate: the tests of the archive FAILED.'
     exit 1
 fi
-exit "$(cat "$work/status")"
+exit "$proved"
