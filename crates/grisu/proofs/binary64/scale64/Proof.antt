@@ -1,4 +1,4 @@
--- `grisu::scale64` meets its contract. Assumes nothing.
+-- `grisu::binary64::scale64` meets its contract. Assumes nothing.
 use borrow.Author.Needs.{needs}
 use native.Mathlib.Omega.{arith}
 use Rattle.rules.specs.Width.{w64}
@@ -9,8 +9,8 @@ use Rattle.diyfp.specs.Pairs.{Stands}
 use Rattle.powers.specs.Powers.{Cached}
 use Rattle.powers.proofs.Small.{small64}
 use Rattle.grisu.proofs.Scaling.{upper-near, lower-near, value-near, power-near, upper-read, serves, shiftable, Products, products, one-less, one-more, ordered, shift-fits, shift-natural, shift-small, scales-to}
-use Rattle.grisu.proofs.scale64.Statement.{statement}
-use Rattle.grisu.proofs.scale64.Tie as tie
+use Rattle.grisu.proofs.binary64.scale64.Statement.{statement}
+use Rattle.grisu.proofs.binary64.scale64.Tie as tie
 
 -- What the boundaries, the value and the power stand for.
 plus : (c : tie.After-normalized-boundaries) →
@@ -82,14 +82,14 @@ made c =
     (c .before .before .times .ensures)
 
 sub-h : tie.Need-sub-h
-sub-h c = one-less sound64 small64 _ (made (c .before))
+sub-h c = omega (arith, one-less sound64 small64 _ (made (c .before)))
 
 add-t13 : tie.Need-add-t13
 unfolding w64
 add-t13 c = omega (arith, one-more sound64 small64 _ (made (c .before .before)))
 
 sub-t14 : tie.Need-sub-t14
-sub-t14 c = ordered sound64 small64 _ (made (c .before .before))
+sub-t14 c = omega (arith, ordered sound64 small64 _ (made (c .before .before)))
 
 sub-t15 : tie.Need-sub-t15
 sub-t15 c = let a = c .before .before .before .before in shift-fits sound64 small64 _ (made a)

@@ -1,4 +1,4 @@
--- `grisu::grisu2_64` meets its contract. Assumes nothing.
+-- `grisu::binary64::grisu2_64` meets its contract. Assumes nothing.
 use borrow.Author.Needs.{needs}
 use native.Mathlib.Omega.{arith}
 use lib.Dec.{lit≤}
@@ -6,8 +6,8 @@ use Rattle.rules.specs.Width.{w64}
 use Rattle.theorems.proofs.Printable.{printable64}
 use Rattle.powers.proofs.Small.{small64}
 use Rattle.grisu.proofs.Deciding.{reread, ready, sum-fits, decided}
-use Rattle.grisu.proofs.grisu2_64.Statement.{statement}
-use Rattle.grisu.proofs.grisu2_64.Tie as tie
+use Rattle.grisu.proofs.binary64.grisu2_64.Statement.{statement}
+use Rattle.grisu.proofs.binary64.grisu2_64.Tie as tie
 
 scale64-requires : tie.Need-scale64-requires
 scale64-requires c κs = search needs

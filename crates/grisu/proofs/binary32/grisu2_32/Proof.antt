@@ -1,4 +1,4 @@
--- `grisu::grisu2_32` meets its contract. Assumes nothing.
+-- `grisu::binary32::grisu2_32` meets its contract. Assumes nothing.
 use borrow.Author.Needs.{needs}
 use native.Mathlib.Omega.{arith}
 use lib.Dec.{lit≤}
@@ -6,8 +6,8 @@ use Rattle.rules.specs.Width.{w32}
 use Rattle.theorems.proofs.Printable.{printable32}
 use Rattle.powers.proofs.Small.{small32}
 use Rattle.grisu.proofs.Deciding.{reread, ready, sum-fits, decided}
-use Rattle.grisu.proofs.grisu2_32.Statement.{statement}
-use Rattle.grisu.proofs.grisu2_32.Tie as tie
+use Rattle.grisu.proofs.binary32.grisu2_32.Statement.{statement}
+use Rattle.grisu.proofs.binary32.grisu2_32.Tie as tie
 
 scale32-requires : tie.Need-scale32-requires
 scale32-requires c κs = search needs
