@@ -17,10 +17,11 @@ use Rattle.rules.specs.Digits.{above, under, places, c, first, falls}
 use Rattle.theorems.proofs.Counting.{count-least, count-pos, length-numeral}
 use Rattle.theorems.proofs.Places.{first-fits, first-taken, room-less}
 use Rattle.theorems.proofs.LastDigit.{distance-most, first-settled}
-use Rattle.digits.specs.Digits.{given, Ready, ReadyUnder, TriedAbove, EndedAbove, EndedUnder, distanceUnder, Found, Generated, measure}
-use Rattle.digits.proofs.Counted.{count-below, count-front}
-use Rattle.digits.proofs.Falls.{measured}
-use Rattle.digits.proofs.Numerals.{numeral-joined, last-digit, lowered}
+use Rattle.places.specs.Places.{distanceUnder, measure}
+use Rattle.digits.specs.Digits.{given, Ready, ReadyUnder, TriedAbove, EndedAbove, EndedUnder, Found, Generated}
+use Rattle.places.proofs.Counted.{count-below, count-front}
+use Rattle.places.proofs.Falls.{measured}
+use Rattle.places.proofs.Numerals.{numeral-joined, last-digit, lowered}
 use Rattle.digits.proofs.PlacesAbove as above-zero
 use Rattle.digits.proofs.PlacesAbove.{D-given, digits-whole}
 use Rattle.digits.proofs.PlacesUnder as below-zero

@@ -15,9 +15,10 @@ use Rattle.rules.specs.Numbers.{count, numeral}
 use Rattle.rules.specs.Scaled.{Scaled, D}
 use Rattle.rules.specs.Digits.{above, places, c, first}
 use Rattle.theorems.proofs.Counting.{count-above, count-least}
-use Rattle.digits.specs.Digits.{countToNine, given, SplitAt, ReadyAbove, TriedAbove}
-use Rattle.digits.proofs.Counted.{all-counted}
-use Rattle.digits.proofs.Numerals.{one-more}
+use Rattle.places.specs.Places.{countToNine, SplitAt}
+use Rattle.digits.specs.Digits.{given, ReadyAbove, TriedAbove}
+use Rattle.places.proofs.Counted.{all-counted}
+use Rattle.places.proofs.Numerals.{one-more}
 
 -- D is the distance that was given.
 pub D-given : (h w delta x : ℕ) → delta ≤ h → D (given h w delta x) ≡ delta

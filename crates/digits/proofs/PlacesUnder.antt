@@ -19,9 +19,9 @@ use Rattle.rules.specs.Scaled.{Scaled, D}
 use Rattle.rules.specs.Digits.{under, placesUnder}
 use Rattle.theorems.proofs.Counting.{count-least, length-numeral}
 use Rattle.digits.specs.Digits.{given, ReadyUnder, TriedUnder}
-use Rattle.digits.proofs.Counted.{count-front}
+use Rattle.places.proofs.Counted.{count-front}
 use Rattle.digits.proofs.PlacesAbove.{D-given}
-use Rattle.digits.proofs.Numerals.{one-more}
+use Rattle.places.proofs.Numerals.{one-more}
 
 -- A place that passes is taken; after one that fails comes the next.
 pub place-passes : (b : Scaled) (fuel n : ℕ) → b .H * 10 ^ n % 2 ^ b .x < D b * 10 ^ n → placesUnder b fuel n ≡ under b n

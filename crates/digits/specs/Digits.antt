@@ -1,28 +1,12 @@
--- What digit generation counts, asks and leaves in a buffer. Assumes nothing.
+-- What digit generation asks and leaves in a buffer. Assumes nothing.
 use mathlib.Core.Path.{_≡_}
 use mathlib.Core.List.{List}
-use Prim.Native.Nat.{ℕ, min, suc, _+_, _-_, _*_, _/_, _%_, _^_, _≤_, _<_}
-use mathlib.Core.Bool.{true, false}
-use lib.Dec.{leb}
+use Prim.Native.Nat.{ℕ, suc, _+_, _-_, _*_, _/_, _%_, _^_, _≤_, _<_}
 use lib.IntN.{ℤ, subℕ}
 use Rattle.laws.specs.Puts.{Puts}
 use Rattle.rules.specs.Numbers.{count, numeral}
 use Rattle.rules.specs.Scaled.{Scaled}
 use Rattle.rules.specs.Digits.{Place, places, placesUnder, first, falls}
-
--- How many decimal digits n has, but no more than 9.
-abbrev pub countToNine : ℕ → ℕ
-countToNine n = min (count n) 9
-
--- A place of this unit, room and distance, which are all that the falls of its last digit go by.
-abbrev pub measure : ℕ → ℕ → ℕ → Place
-measure unit room distance =
-    record { up = 0; down = 0; unit = unit; digits = 0; rest = 0; room = room; distance = distance }
-
--- A number without its last k digits, and those.
-pub record SplitAt (p k front back : ℕ) : Type 0 where
-  pub front-is : front ≡ p / 10 ^ k
-  pub back-is : back ≡ p % 10 ^ k
 
 -- The scaled numbers with H = h, W = w, D = delta and this x.
 abbrev pub given : ℕ → ℕ → ℕ → ℕ → Scaled
@@ -81,10 +65,6 @@ pub record TriedUnder (h delta x len n next rest room : ℕ) (old new : List ℕ
 pub record EndedUnder (h delta x len n next rest room : ℕ) (old new : List ℕ) : Type 0 where
   pub tried : TriedUnder h delta x len n next rest room old new
   pub passes : rest < room
-
--- The distance of the value at place -n; from n = 9 on it is 0.
-unfoldable pub distanceUnder : ℕ → ℕ → ℕ
-distanceUnder gap n = elim (leb n 8) as (λ _. ℕ) [ true ↦ gap * 10 ^ n | false ↦ 0 ]
 
 -- A place f: its digits stand from the buffer's start on, and these are its numbers.
 pub record Found (f : Place) (len : ℕ) (place : ℤ) (unit room distance rest : ℕ) (old new : List ℕ) : Type 0 where

@@ -8,7 +8,6 @@ use lib.IntN.{ℤ, pos, negsuc, subℕ}
 use lib.ListN.{length, drop, length-append, length-take, length-drop}
 use lib.Signed.{mag}
 use Rattle.laws.proofs.Branches.{either}
-use Rattle.laws.proofs.Differences as difference
 use Rattle.rules.specs.Bytes.{bytes}
 use Rattle.rules.specs.Layout.{zeros, exponent, scientific, layout}
 use Rattle.theorems.proofs.Counting.{count-least, count-pos, length-plain}

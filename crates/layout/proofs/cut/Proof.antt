@@ -7,7 +7,6 @@ use lib.Seq.{getD-drop, getD-take, length-slice, slice}
 use Rattle.layout.proofs.Cutting.{Kept, none-cut, first-kept, one-cut, stays, only-one}
 use Rattle.layout.proofs.cut.Statement.{statement}
 use Rattle.layout.proofs.cut.Tie as tie
-use Rattle.layout.proofs.cut.Reads as reads
 
 abbrev Inv-loop : tie.InvT-loop
 Inv-loop buf first end kept₀ kept = Kept (slice first end buf) kept

@@ -1,8 +1,8 @@
 -- `layout::write_small` meets its contract: the digits one after the other are the number's numeral. Assumes nothing.
 use mathlib.Core.Path.{refl}
 use native.Mathlib.Omega.{arith}
-use Rattle.digits.proofs.Counted.{count-one, count-is}
-use Rattle.digits.proofs.Numerals.{one-more, first-digit, plainly}
+use Rattle.places.proofs.Counted.{count-one, count-is}
+use Rattle.places.proofs.Numerals.{one-more, first-digit, plainly}
 use Rattle.layout.proofs.write_small.Statement.{statement}
 use Rattle.layout.proofs.write_small.Tie as tie
 

@@ -9,7 +9,7 @@ use Rattle.laws.proofs.Branches.{which}
 use Rattle.laws.proofs.Powers.{ten-pos}
 use Rattle.rules.specs.Numbers.{count}
 use Rattle.theorems.proofs.Counting.{count-above, count-least, count-pos, count-reaches}
-use Rattle.digits.specs.Digits.{countToNine}
+use Rattle.places.specs.Places.{countToNine}
 
 -- One digit below ten.
 pub count-one : (n : ℕ) → n < 10 → count n ≡ 1

@@ -1,4 +1,4 @@
--- `digits::low_bits` meets its contract: a mask leaves a remainder. Assumes nothing.
+-- `places::low_bits` meets its contract: a mask leaves a remainder. Assumes nothing.
 use mathlib.Core.Path.{_≡_, _∙_}
 use Prim.Native.Nat.{ℕ, _*_, _%_, _^_, _≤_}
 use native.Mathlib.Nat.{one-mul}
@@ -6,8 +6,8 @@ use native.Mathlib.Omega.{arith}
 use lib.Bits.{and-mask}
 use lib.Dec.{lit<}
 use lib.Pow.{pow-pos, shl-exact}
-use Rattle.digits.proofs.low_bits.Statement.{statement}
-use Rattle.digits.proofs.low_bits.Tie as tie
+use Rattle.places.proofs.low_bits.Statement.{statement}
+use Rattle.places.proofs.low_bits.Tie as tie
 
 shl-result : tie.Need-shl-result
 shl-result c = omega arith

@@ -1,10 +1,10 @@
--- `digits::pow10` meets its contract. Assumes nothing.
+-- `places::pow10` meets its contract. Assumes nothing.
 use mathlib.Core.Path.{_≡_, sym, ap}
 use Prim.Native.Nat.{ℕ, _^_}
 use native.Mathlib.Omega.{arith}
 use Rattle.laws.proofs.Arms.{past}
-use Rattle.digits.proofs.pow10.Statement.{statement}
-use Rattle.digits.proofs.pow10.Tie as tie
+use Rattle.places.proofs.pow10.Statement.{statement}
+use Rattle.places.proofs.pow10.Tie as tie
 
 at : {k n : ℕ} → k ≡ n → 10 ^ n ≡ 10 ^ k
 at e = sym (ap (λ (n : ℕ). 10 ^ n) e)

@@ -1,10 +1,10 @@
--- `digits::closer` meets its contract: each early answer settles the tests of the rule. Assumes nothing.
+-- `places::closer` meets its contract: each early answer settles the tests of the rule. Assumes nothing.
 use Prim.Native.Nat.{_-_}
 use native.Mathlib.Omega.{arith}
 use borrow.Author.Tests.{le-ltb, lt-ltb, le-leb, lt-leb}
 use Rattle.rules.specs.Digits.{closer}
-use Rattle.digits.proofs.closer.Statement.{statement}
-use Rattle.digits.proofs.closer.Tie as tie
+use Rattle.places.proofs.closer.Statement.{statement}
+use Rattle.places.proofs.closer.Tie as tie
 
 returns : tie.Need-returns
 unfolding closer

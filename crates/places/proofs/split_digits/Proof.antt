@@ -1,12 +1,12 @@
--- `digits::split_digits` meets its contract. Assumes nothing.
+-- `places::split_digits` meets its contract. Assumes nothing.
 use mathlib.Core.Path.{_≡_, refl, sym}
 use Prim.Native.Nat.{ℕ, _/_, _%_, _^_}
 use native.Mathlib.Nat.{div-one, mod-one}
 use native.Mathlib.Omega.{arith}
 use Rattle.laws.proofs.Arms.{past}
-use Rattle.digits.specs.Digits.{SplitAt}
-use Rattle.digits.proofs.split_digits.Statement.{statement}
-use Rattle.digits.proofs.split_digits.Tie as tie
+use Rattle.places.specs.Places.{SplitAt}
+use Rattle.places.proofs.split_digits.Statement.{statement}
+use Rattle.places.proofs.split_digits.Tie as tie
 
 at : {k n : ℕ} (p : ℕ) → k ≡ n → SplitAt p k (p / 10 ^ n) (p % 10 ^ n)
 at p e = rw e (record { front-is = refl; back-is = refl })

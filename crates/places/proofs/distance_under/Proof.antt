@@ -1,9 +1,9 @@
--- `digits::distance_under` meets its contract. Assumes nothing.
+-- `places::distance_under` meets its contract. Assumes nothing.
 use native.Mathlib.Omega.{arith}
 use borrow.Author.Tests.{le-leb, lt-leb}
-use Rattle.digits.specs.Digits.{distanceUnder}
-use Rattle.digits.proofs.distance_under.Statement.{statement}
-use Rattle.digits.proofs.distance_under.Tie as tie
+use Rattle.places.specs.Places.{distanceUnder}
+use Rattle.places.proofs.distance_under.Statement.{statement}
+use Rattle.places.proofs.distance_under.Tie as tie
 
 pow10-requires : tie.Need-pow10-requires
 pow10-requires c κs = omega arith

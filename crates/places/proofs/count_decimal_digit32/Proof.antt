@@ -1,8 +1,8 @@
--- `digits::count_decimal_digit32` meets its contract: each test names the power of ten above the number. Assumes nothing.
+-- `places::count_decimal_digit32` meets its contract: each test names the power of ten above the number. Assumes nothing.
 use lib.Dec.{lit≤}
-use Rattle.digits.proofs.Counted.{count-one, count-is, to-nine, nine}
-use Rattle.digits.proofs.count_decimal_digit32.Statement.{statement}
-use Rattle.digits.proofs.count_decimal_digit32.Tie as tie
+use Rattle.places.proofs.Counted.{count-one, count-is, to-nine, nine}
+use Rattle.places.proofs.count_decimal_digit32.Statement.{statement}
+use Rattle.places.proofs.count_decimal_digit32.Tie as tie
 
 returns : tie.Need-returns
 returns c = to-nine _ 1 (count-one _ (c .if1 .taken)) (lit≤ tt)

@@ -7,7 +7,7 @@ use native.Mathlib.Omega.{arith}
 use lib.Dec.{T}
 use Rattle.rules.specs.Digits.{Place, closer, falls}
 use Rattle.theorems.proofs.Places.{closer-within}
-use Rattle.digits.specs.Digits.{measure}
+use Rattle.places.specs.Places.{measure}
 
 -- The falls go by unit, room and distance alone.
 pub measured : (f : Place) (fuel rest : ℕ) → falls (measure (f .unit) (f .room) (f .distance)) fuel rest ≡ falls f fuel rest

@@ -1,13 +1,13 @@
--- `digits::grisu_round` meets its contract: the falls so far and those that are left are all of them. Assumes nothing.
+-- `places::grisu_round` meets its contract: the falls so far and those that are left are all of them. Assumes nothing.
 use mathlib.Core.Bool.{true}
 use mathlib.Core.Path.{_≡_, sym, _∙_}
 use Prim.Native.Nat.{_-_}
 use native.Mathlib.Omega.{arith}
 use Rattle.rules.specs.Digits.{closer}
-use Rattle.digits.specs.Digits.{measure}
-use Rattle.digits.proofs.Falls.{Falling, falling, settled, room-left, not-ten, fall-more}
-use Rattle.digits.proofs.grisu_round.Statement.{statement}
-use Rattle.digits.proofs.grisu_round.Tie as tie
+use Rattle.places.specs.Places.{measure}
+use Rattle.places.proofs.Falls.{Falling, falling, settled, room-left, not-ten, fall-more}
+use Rattle.places.proofs.grisu_round.Statement.{statement}
+use Rattle.places.proofs.grisu_round.Tie as tie
 
 abbrev Inv-loop : tie.InvT-loop
 Inv-loop unit room distance rest fallen₀ at₀ fallen at = Falling (measure unit room distance) rest fallen at

@@ -1,0 +1,4 @@
+pub mod Counted
+pub mod Numerals
+pub mod Signs
+pub mod Falls
