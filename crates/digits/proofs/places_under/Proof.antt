@@ -69,7 +69,7 @@ same-length : tie.Need-same-length Inv-loop μ-loop
 same-length c = kept (c .before .loop .inv .text)
 
 returns : tie.Need-returns Inv-loop μ-loop
-returns c = record { tried = c .before .loop .inv; passes = c .loop-test .left }
+returns c = record { tried = c .before .loop .inv; passes = omega (arith, c .loop-test .left) }
 
 pub places-under-spec : {M : Type 1} → statement M
 places-under-spec =
