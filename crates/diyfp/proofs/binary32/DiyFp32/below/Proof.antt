@@ -30,7 +30,7 @@ returns : tie.Need-returns
 unfolding w32
 returns c m s =
     let a = c .before .before .before .before .before in
-    hidden small32 (a .pre) m s (lit≤ tt) (sym (s .significand) ∙ c .before .before .before .if1 .taken)
+    hidden small32 (a .pre) m s (lit≤ tt) (omega (arith, s .significand, c .before .before .before .if1 .taken))
     (ap (λ (x : ℕ). x - 1) (times a 4 (lit≤ tt) m s))
 
 sub-t7 : tie.Need-sub-t7
@@ -46,7 +46,7 @@ returns-2 : tie.Need-returns-2
 unfolding w32
 returns-2 c m s =
     let a = c .before .before .before .before .before in
-    other small32 (a .pre) m s (lit≤ tt) (λ at. c .before .before .before .if1 .left (s .significand ∙ at))
+    other small32 (a .pre) m s (lit≤ tt) (λ at. omega (arith, at, s .significand, c .before .before .before .if1 .left))
     (ap (λ (x : ℕ). x - 1) (times a 2 (lit≤ tt) m s))
 
 pub below-spec : {M : Type 1} → statement M
