@@ -4,7 +4,7 @@
 # rt ci proves every crate from nothing. Once it has proved dtoa_c, the archive is built over a copy of the proved libraries, so
 # that no crate below it is proved twice, and its tests run while rt ci tries the edits. What rt ci says is shown as it comes, but
 # for its last line, `N passed, M failed`, which waits for the archive's tests. Where those alone fail, they have the last word.
-# DTOA_LIB=FOLDER tests the archive in that folder, and builds none.
+# DTOA_LIB=FOLDER tests the archive in that folder, and builds none. It may lie below target/, which rt ci removes: a copy is tested.
 set -eu
 cd "$(dirname "$0")/.."
 
@@ -12,6 +12,11 @@ cd "$(dirname "$0")/.."
 export RT_JOBS="${RT_JOBS:-4}"
 work=$(mktemp -d)
 trap 'rm -rf "$work"' EXIT
+if [ -n "${DTOA_LIB:-}" ]; then
+    mkdir "$work/given"
+    cp "$DTOA_LIB/libdtoa_c.a" "$work/given"
+    export DTOA_LIB="$work/given"
+fi
 rm -rf target
 
 # Ends well once rt ci has proved dtoa_c, and with 1 where rt ci ends first or was broken off.
