@@ -53,3 +53,8 @@ module _ {f : Place} {rest n at : ℕ} (few : f .room < rest + 10 * f .unit) (so
         within = room-left;
         others = omega (arith, so .others, fell f (10 - (n + 1)) at e, ap (λ (m : ℕ). falls f m at) fuel);
       }
+
+-- At an equal distance the digit stays: 0 and 2 are equally far from 1.
+pub not-at-equal-distance : closer (measure 2 2 1) 0 ≡ true → ⊥
+unfolding closer
+not-at-equal-distance e = subst T (sym e) tt
