@@ -21,7 +21,7 @@ use Rattle.places.specs.Places.{distanceUnder, measure}
 use Rattle.digits.specs.Digits.{given, Ready, ReadyUnder, TriedAbove, EndedAbove, EndedUnder, Found, Generated}
 use Rattle.places.proofs.Counted.{count-below, count-front}
 use Rattle.places.proofs.Falls.{measured}
-use Rattle.places.proofs.Numerals.{numeral-joined, last-digit, lowered}
+use Rattle.put.proofs.Numerals.{numeral-joined, last-digit, lowered}
 use Rattle.digits.proofs.PlacesAbove as above-zero
 use Rattle.digits.proofs.PlacesAbove.{D-given, digits-whole}
 use Rattle.digits.proofs.PlacesUnder as below-zero

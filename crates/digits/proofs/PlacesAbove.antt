@@ -18,7 +18,7 @@ use Rattle.theorems.proofs.Counting.{count-above, count-least}
 use Rattle.places.specs.Places.{countToNine, SplitAt}
 use Rattle.digits.specs.Digits.{given, ReadyAbove, TriedAbove}
 use Rattle.places.proofs.Counted.{all-counted}
-use Rattle.places.proofs.Numerals.{one-more}
+use Rattle.put.proofs.Numerals.{one-more}
 
 -- D is the distance that was given.
 pub D-given : (h w delta x : ℕ) → delta ≤ h → D (given h w delta x) ≡ delta

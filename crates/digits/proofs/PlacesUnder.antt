@@ -21,7 +21,7 @@ use Rattle.theorems.proofs.Counting.{count-least, length-numeral}
 use Rattle.digits.specs.Digits.{given, ReadyUnder, TriedUnder}
 use Rattle.places.proofs.Counted.{count-front}
 use Rattle.digits.proofs.PlacesAbove.{D-given}
-use Rattle.places.proofs.Numerals.{one-more}
+use Rattle.put.proofs.Numerals.{one-more}
 
 -- A place that passes is taken; after one that fails comes the next.
 pub place-passes : (b : Scaled) (fuel n : ℕ) → b .H * 10 ^ n % 2 ^ b .x < D b * 10 ^ n → placesUnder b fuel n ≡ under b n

@@ -1,6 +1,6 @@
 -- Numbers below zero in an i32, as differences of naturals: a local holds the bits of a number, and gives it back. Assumes nothing.
-use mathlib.Core.Path.{_≡_, sym, subst, _∙_}
-use Prim.Native.Nat.{ℕ, _+_, _-_, _*_, _/_, _^_, _≤_, _<_}
+use mathlib.Core.Path.{_≡_, refl, sym, subst, _∙_}
+use Prim.Native.Nat.{ℕ, zero, suc, _+_, _-_, _*_, _/_, _^_, _≤_, _<_}
 use native.Mathlib.Nat.{add-zero}
 use native.Mathlib.Omega.{arith}
 use lib.IntN.{ℤ, pos, natAbs, subℕ, _+ℤ_, _-ℤ_, _*ℤ_}
@@ -79,3 +79,14 @@ floored {a = a} {b = b} n q some whole p = record { is = rw (p .is, whole) (diff
 -- Where a is at least b, the number is a natural one.
 pub at-least : {z : ℤ} {a b : ℕ} → Is z a b → b ≤ a → z ≡ pos (a - b)
 at-least {z} {a} {b} p more = p .is ∙ sym (is-pos (a - b) a b (omega arith))
+
+-- Minus n, as an i32 computes and holds it.
+pub minus : (n : ℕ) → n < 2 ^ 31 → pos 0 -ℤ toZ w32 n ≡ subℕ 0 n
+minus n h = rw (toZ-pos w32 h) (below n)
+  where
+    below : (m : ℕ) → pos 0 -ℤ pos m ≡ subℕ 0 m
+    below zero = refl
+    below (suc m) = refl
+
+pub minus-fits : (n : ℕ) → n < 2 ^ 31 → SFits w32 (subℕ 0 n)
+minus-fits n h = record { sfits = bounded (2 ^ 31) 0 n (omega arith) (omega arith) }

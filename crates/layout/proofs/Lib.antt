@@ -1,3 +1,4 @@
+pub mod Signs
 pub mod Cutting
 pub mod Texts
 pub mod Ruled

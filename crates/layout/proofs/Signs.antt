@@ -8,11 +8,11 @@ use native.Mathlib.Omega.{arith}
 use lib.Dec.{T}
 use lib.IntN.{ℤ, pos, negsuc, natAbs, subℕ, _-ℤ_}
 use lib.Signed.{ltZ, nonNeg}
-use mir.Facts.{toZ-ofZ, toZ-pos}
+use mir.Facts.{toZ-ofZ}
 use mir.Syntax.{w32}
-use mir.Val.{SFits, toZ, ofZ}
+use mir.Val.{toZ, ofZ}
 use borrow.Author.Tests.{ltb-true}
-use Rattle.laws.proofs.Differences.{bounded, is-negsuc}
+use Rattle.laws.proofs.Differences.{is-negsuc}
 use Rattle.rules.specs.Bytes as byte
 use Rattle.rules.specs.Numbers.{plain}
 use Rattle.rules.specs.Layout.{exponent}
@@ -41,17 +41,6 @@ pub exponent-upward : (k : ℤ) → ltZ k (pos 0) ≡ false → exponent k ≡ p
 unfolding exponent
 exponent-upward (pos n) e = refl
 exponent-upward (negsuc n) e = absurd (subst T e tt)
-
--- Minus n, as an i32 computes and holds it.
-pub minus : (n : ℕ) → n < 2 ^ 31 → pos 0 -ℤ toZ w32 n ≡ subℕ 0 n
-minus n h = rw (toZ-pos w32 h) (below n)
-  where
-    below : (m : ℕ) → pos 0 -ℤ pos m ≡ subℕ 0 m
-    below zero = refl
-    below (suc m) = refl
-
-pub minus-fits : (n : ℕ) → n < 2 ^ 31 → SFits w32 (subℕ 0 n)
-minus-fits n h = record { sfits = bounded (2 ^ 31) 0 n (omega arith) (omega arith) }
 
 -- A number below zero is minus how far away it is.
 pub is-minus : (k : ℤ) → ltZ k (pos 0) ≡ true → k ≡ subℕ 0 (natAbs k)

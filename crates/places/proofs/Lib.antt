@@ -1,4 +1,2 @@
 pub mod Counted
-pub mod Numerals
-pub mod Signs
 pub mod Falls

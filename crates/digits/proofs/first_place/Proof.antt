@@ -7,7 +7,7 @@ use mir.Facts.{toZ-ofZ, toZ-pos}
 use mir.Syntax.{w32}
 use Rattle.laws.proofs.Puts.{kept}
 use Rattle.digits.proofs.FirstPlace.{below-nine, unit-most, found-above, ready-under, distance-small, found-under}
-use Rattle.places.proofs.Signs.{minus, minus-fits}
+use Rattle.laws.proofs.Signed.{minus, minus-fits}
 use Rattle.digits.proofs.first_place.Statement.{statement}
 use Rattle.digits.proofs.first_place.Tie as tie
 

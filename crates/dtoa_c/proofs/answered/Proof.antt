@@ -1,4 +1,4 @@
--- `answered` meets its contract. Assumes nothing.
+-- `dtoa_c::answered` meets its contract. Assumes nothing.
 use native.Mathlib.Omega.{arith}
 use Rattle.dtoa_c.proofs.Answering.{length-of-printed}
 use borrow.Author.Needs.{needs}

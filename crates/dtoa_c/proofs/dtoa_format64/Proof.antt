@@ -1,4 +1,4 @@
--- `dtoa_format64` meets its contract. Assumes nothing.
+-- `dtoa_c::dtoa_format64` meets its contract. Assumes nothing.
 use Rattle.rules.specs.Width.{w64}
 use Rattle.rules.specs.Answer.{every}
 use Rattle.theorems.proofs.Printable.{printable64}

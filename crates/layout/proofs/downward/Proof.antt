@@ -11,7 +11,7 @@ use Rattle.laws.proofs.Differences.{is-negsuc}
 use Rattle.laws.proofs.Puts.{then}
 use Rattle.rules.specs.Bytes.{bytes}
 use Rattle.layout.proofs.Ruled as ruled
-use Rattle.places.proofs.Signs.{minus, minus-fits}
+use Rattle.laws.proofs.Signed.{minus, minus-fits}
 use Rattle.layout.proofs.Texts.{digits-long}
 use Rattle.layout.proofs.downward.Statement.{statement}
 use Rattle.layout.proofs.downward.Tie as tie

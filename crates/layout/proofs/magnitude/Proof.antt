@@ -7,7 +7,7 @@ use mir.Facts.{toZ-ofZ}
 use mir.Syntax.{w32}
 use mir.Val.{toZ, ofZ}
 use borrow.Author.Needs.{needs}
-use Rattle.places.proofs.Signs.{held, negated, not-below}
+use Rattle.layout.proofs.Signs.{held, negated, not-below}
 use Rattle.layout.proofs.magnitude.Statement.{statement}
 use Rattle.layout.proofs.magnitude.Tie as tie
 

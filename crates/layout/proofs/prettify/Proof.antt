@@ -7,7 +7,7 @@ use lib.Signed.{ltZ, pos-natAbs}
 use mir.Facts.{toZ-ofZ}
 use mir.Syntax.{w32}
 use mir.Val.{ofZ, toZ}
-use Rattle.places.proofs.Signs.{away, is-minus, not-below}
+use Rattle.layout.proofs.Signs.{away, is-minus, not-below}
 use Rattle.layout.proofs.prettify.Statement.{statement}
 use Rattle.layout.proofs.prettify.Tie as tie
 

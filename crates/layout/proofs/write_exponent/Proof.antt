@@ -6,7 +6,7 @@ use mir.Facts.{toZ-ofZ}
 use mir.Syntax.{w32}
 use mir.Val.{toZ, ofZ}
 use Rattle.laws.proofs.Puts.{kept, then, part, part-room}
-use Rattle.places.proofs.Signs.{exponent-below, exponent-upward}
+use Rattle.layout.proofs.Signs.{exponent-below, exponent-upward}
 use borrow.Author.Needs.{needs}
 use Rattle.layout.proofs.write_exponent.Statement.{statement}
 use Rattle.layout.proofs.write_exponent.Tie as tie

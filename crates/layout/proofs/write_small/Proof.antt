@@ -2,7 +2,7 @@
 use mathlib.Core.Path.{refl}
 use native.Mathlib.Omega.{arith}
 use Rattle.places.proofs.Counted.{count-one, count-is}
-use Rattle.places.proofs.Numerals.{one-more, first-digit, plainly}
+use Rattle.put.proofs.Numerals.{one-more, first-digit, plainly}
 use Rattle.layout.proofs.write_small.Statement.{statement}
 use Rattle.layout.proofs.write_small.Tie as tie
 

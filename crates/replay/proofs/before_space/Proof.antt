@@ -1,4 +1,4 @@
--- `before_space` meets its contract. Assumes nothing.
+-- `replay::before_space` meets its contract. Assumes nothing.
 use mathlib.Core.Path.{sym}
 use lib.Seq.{length-take-le}
 use Prim.Native.Nat.{_-_, _≤_}

@@ -1,4 +1,4 @@
--- `compare` is safe and ends. Assumes nothing.
+-- `replay::compare` is safe and ends. Assumes nothing.
 use mathlib.Core.Path.{_≡_, refl}
 use native.Mathlib.Omega.{arith}
 use lib.ListN.{length}

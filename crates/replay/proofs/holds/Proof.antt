@@ -1,4 +1,4 @@
--- `holds` is safe and ends. Assumes nothing.
+-- `replay::holds` is safe and ends. Assumes nothing.
 use Prim.Native.Nat.{_-_, _≤_}
 use native.Mathlib.Omega.{arith}
 use lib.ListN.{length}

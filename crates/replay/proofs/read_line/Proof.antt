@@ -1,4 +1,4 @@
--- `read_line` is safe and meets its contract. Assumes nothing.
+-- `replay::read_line` is safe and meets its contract. Assumes nothing.
 use mathlib.Core.Path.{_≡_, refl, sym}
 use lib.Seq.{length-take-le}
 use Prim.Native.Nat.{_-_, _≤_}

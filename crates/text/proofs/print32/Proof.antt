@@ -1,4 +1,4 @@
--- `print32` meets its contract: a name, or a sign and the magnitude. Assumes nothing.
+-- `text::print32` meets its contract: a name, or a sign and the magnitude. Assumes nothing.
 use native.Mathlib.Omega.{arith}
 use Rattle.laws.proofs.Puts.{kept, then, part, part-room}
 use Rattle.rules.specs.Width.{w32}

@@ -1,4 +1,4 @@
--- `put_name` meets its contract. Assumes nothing.
+-- `text::put_name` meets its contract. Assumes nothing.
 use native.Mathlib.Omega.{arith}
 use Rattle.laws.proofs.Puts.{kept, then}
 use Rattle.rules.specs.Bytes.{bytes}

@@ -1,4 +1,4 @@
--- `put_sign` meets its contract. Assumes nothing.
+-- `text::put_sign` meets its contract. Assumes nothing.
 use native.Mathlib.Omega.{arith}
 use Rattle.laws.proofs.Puts.{none}
 use borrow.Author.Needs.{needs}

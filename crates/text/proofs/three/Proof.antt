@@ -1,4 +1,4 @@
--- `three` meets its contract: one byte behind the other. Assumes nothing.
+-- `text::three` meets its contract: one byte behind the other. Assumes nothing.
 use Rattle.laws.proofs.Puts.{then}
 use borrow.Author.Needs.{needs}
 use Rattle.text.proofs.three.Statement.{statement}

@@ -1,4 +1,4 @@
--- `is_bare32` meets its contract. Assumes nothing.
+-- `text::bits::is_bare32` meets its contract. Assumes nothing.
 use Rattle.rules.specs.Width.{w32}
 use Rattle.rules.specs.Pattern.{significand}
 use Rattle.text.proofs.Masks.{masked}

@@ -1,4 +1,4 @@
--- `is_bare64` meets its contract. Assumes nothing.
+-- `text::bits::is_bare64` meets its contract. Assumes nothing.
 use Rattle.rules.specs.Width.{w64}
 use Rattle.rules.specs.Pattern.{significand}
 use Rattle.text.proofs.Masks.{masked}
