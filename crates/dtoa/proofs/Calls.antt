@@ -1,57 +1,40 @@
 -- What crates above the printer rely on, from the contract of a call alone: the length's bound, the text, the bytes behind it, the round trip.
 -- Assumes nothing.
 use mathlib.Core.Bool.{not}
-use mathlib.Core.List.{List, _++_}
-use mathlib.Core.Path.{_≡_, refl, sym, ap, _∙_}
+use mathlib.Core.List.{List}
+use mathlib.Core.Path.{_≡_, sym, _∙_}
 use Prim.Native.Nat.{ℕ, _^_, _≤_, _<_}
 use native.Mathlib.Omega.{arith}
-use lib.Dec.{T, eqb, T-not}
-use lib.Ieee.Fits.{eq→eqb}
+use lib.Dec.{T}
 use lib.ListN.{length, take, drop}
-use lib.Seq.{take-at, drop-at}
-use Rattle.laws.proofs.Branches.{either}
 use Rattle.rules.specs.Width.{Width, w32, w64}
 use Rattle.rules.specs.Pattern.{special}
 use Rattle.rules.specs.Text.{text}
 use Rattle.rules.specs.Reading.{ReadsAs}
-use Rattle.rules.specs.Answer.{Entry, number, Answer, answer, after}
+use Rattle.rules.specs.Answer.{Entry}
+use Rattle.theorems.proofs.Results.{put-length, text-put, rest-kept}
 use Rattle.theorems.proofs.Printable.{Printable, printable32, printable64}
 use Rattle.theorems.proofs.TextLength.{text-length}
 use Rattle.theorems.proofs.RoundTrip.{restored, distinct}
 use Rattle.dtoa.specs.Meets.{Meets}
 use Rattle.dtoa.specs.declared.Outcome.the-variants.{Printed}
+use Rattle.dtoa.proofs.Outcomes.{right}
 
 -- A call that printed n bytes.
 module _ (c : Entry) (w : Width) (v : ℕ) (before last : List ℕ) (n : ℕ) (m : Meets c w v before (Printed n) last) where
-  printed-number : number c w v (length before) ≡ 0
-  unfolding answer
-  printed-number = sym (ap (λ (a : Answer). a .number) (m .answers))
-
-  printed-length : n ≡ length (text w v)
-  unfolding answer
-  printed-length =
-      ap (λ (a : Answer). a .len) (m .answers)
-      ∙ either (λ (l : ℕ). l ≡ length (text w v)) (eqb (number c w v (length before)) 0) (λ t. refl)
-      (λ t. absurd (T-not (eqb (number c w v (length before)) 0) t (eq→eqb printed-number)))
-
-  printed-bytes : last ≡ text w v ++ drop (length (text w v)) before
-  unfolding after
-  printed-bytes =
-      m .bytes
-      ∙ either (λ (l : List ℕ). l ≡ text w v ++ drop (length (text w v)) before) (eqb (number c w v (length before)) 0) (λ t. refl)
-      (λ t. absurd (T-not (eqb (number c w v (length before)) 0) t (eq→eqb printed-number)))
-
   -- The text definition: the bytes up to the length are the pattern's text.
   pub text-definition : take n last ≡ text w v
-  text-definition = ap (take n) printed-bytes ∙ take-at (text w v) _ n (sym printed-length)
+  text-definition = text-put (right c w v before m)
 
   -- The bytes from the length on are as before.
   pub bytes-behind : drop n last ≡ drop n before
-  bytes-behind = ap (drop n) printed-bytes ∙ drop-at (text w v) _ n (sym printed-length) ∙ ap (λ (l : ℕ). drop l before) (sym printed-length)
+  bytes-behind = rest-kept (right c w v before m)
 
   -- The length bound.
   pub length-bound : {q : ℕ} → Printable w q → (3 ≤ n) × (n ≤ 25)
-  length-bound {q} p = let t = text-length w q p v in (omega (arith, printed-length, t .least), omega (arith, printed-length, t .most))
+  length-bound {q} p =
+      let is : n ≡ length (text w v) = put-length (right c w v before m) in
+      let t = text-length w q p v in (omega (arith, t .least), omega (arith, t .most))
 
   -- The round trip: what stands in the buffer up to the length reads as the pattern.
   pub round-trip : {q : ℕ} → Printable w q → v < 2 ^ w .bits → T (not (special w v)) → ReadsAs w (take n last) v

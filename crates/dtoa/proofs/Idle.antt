@@ -16,7 +16,7 @@ use Rattle.rules.specs.Scaled.{scaled, D}
 use Rattle.rules.specs.Digits.{above, under, placesUnder, places, c, first, closer, falls, decimal}
 use Rattle.rules.specs.Layout.{zeros, decimals, exponent, scientific, byRule, layout}
 use Rattle.rules.specs.Text.{shown, signed, text}
-use Rattle.rules.specs.Answer.{every, finiteOnly, refuses, number, Answer, answer, after}
+use Rattle.rules.specs.Answer.{every, finiteOnly, refuses, number, Answer, answering, leaving, answer, after}
 use Rattle.dtoa.specs.Meets.{Meets}
 use Rattle.dtoa.specs.declared.Outcome.the-variants.{Printed, TooShort, NotFinite}
 
@@ -34,11 +34,11 @@ e64-text = refl
 
 -- What a call has to answer there.
 has-to-answer : answer every w64 e64 (length lent) ≡ record { number = 0; len = 7 }
-unfolding answer number refuses bytes
+unfolding answering answer number refuses bytes
 has-to-answer = rw e64-text
 
 has-to-leave : after every w64 e64 lent ≡ bytes "2.71828" ++ drop 7 lent
-unfolding after number refuses bytes
+unfolding leaving after number refuses bytes
 has-to-leave = rw e64-text
 
 -- One that refuses everything, as too short or as not finite.
@@ -75,7 +75,7 @@ unfolding bytes countUpTo count numeral plain raised significands32 exponents32 
 tenth32-text = refl
 
 tenth32-answer : answer every w32 tenth32 (length lent) ≡ record { number = 0; len = 3 }
-unfolding answer number refuses bytes
+unfolding answering answer number refuses bytes
 tenth32-answer = rw tenth32-text
 
 -- One that prints 32 bits by widening them to 64.
@@ -84,9 +84,9 @@ not-widened m = omega (arith, ap (λ (a : Answer). a .len) (m .answers ∙ tenth
 
 -- One that lets an infinity through the entry for finite patterns, or refuses it before the buffer is looked at.
 pub not-let-through : {last : List ℕ} (n : ℕ) → Meets finiteOnly w64 0x7ff0000000000000 lent (Printed n) last → ⊥
-unfolding answer number refuses special biased allOnes w64
+unfolding answering answer number refuses special biased allOnes w64
 not-let-through n m = omega (arith, ap (λ (a : Answer). a .number) (m .answers))
 
 pub not-looked-at-second : {last : List ℕ} → Meets finiteOnly w64 0x7ff0000000000000 (replicate 24 42) NotFinite last → ⊥
-unfolding answer number refuses special biased allOnes w64
+unfolding answering answer number refuses special biased allOnes w64
 not-looked-at-second m = omega (arith, ap (λ (a : Answer). a .number) (m .answers))

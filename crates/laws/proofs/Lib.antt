@@ -7,3 +7,4 @@ pub mod Arms
 pub mod Exponents
 pub mod Closest
 pub mod Puts
+pub mod Rest

@@ -1,8 +1,8 @@
--- Worked examples as one list that the checker computes: layouts, texts, scaled numbers, answers. Assumes nothing.
+-- Worked examples that the checker computes: layouts, texts, scaled numbers, readings and answers, and rows by themselves. Assumes nothing.
 use Prim.Native.Nat.{ℕ}
 use Prim.Native.String.{String}
 use mathlib.Core.Bool.{Bool, true, false, _&&_}
-use mathlib.Core.List.{List, [], _∷_, _++_}
+use mathlib.Core.List.{List, [], _∷_, _++_, map}
 use lib.Dec.{T, eqb}
 use lib.Ieee.{size}
 use lib.IntN.{ℤ, pos, subℕ}
@@ -22,7 +22,8 @@ use Rattle.rules.specs.Layout.{zeros, joined, trimmed, oneKept, decimals
 use Rattle.rules.specs.Text.{shown, signed, text}
 use Rattle.rules.specs.Reading as Reading
 use Rattle.rules.specs.Reading.{isDigit, extended, powered, exponentMore, exponentFirst, exponentSign, decimalsMore, decimalsFirst, wholeMore, unsigned, Exact, refused, notANumber, infinite, same, withFraction, magnitudeOf, exact, infinity, top, low, unbounded, nearest, withSign}
-use Rattle.rules.specs.Answer.{Entry, every, finiteOnly, refuses, number, answer, after}
+use Rattle.rules.specs.Answer.{Entry, every, finiteOnly, refuses, number, answering, leaving, answer, after}
+use Rattle.rules.specs.Row.{spaced, row, rowNumber, rowAnswer, rowAfter, onto, pieces, cut}
 
 pub data Example : Type 0 where
   -- the digits of a number and k, laid out
@@ -41,6 +42,12 @@ pub data Example : Type 0 where
   comes-back : Width → ℕ → Example
   -- an entry's number and length at a pattern, in a buffer of so many bytes 42, and the bytes that it puts before them
   answers : Entry → Width → ℕ → ℕ → ℕ → ℕ → String → Example
+  -- a row's number and length, in a buffer of so many bytes 42, and the bytes that it puts before them
+  answers-row : List ℕ → ℕ → ℕ → ℕ → String → Example
+  -- the number of a row of so many patterns, in a buffer of so many bytes
+  numbers-row : ℕ → ℕ → ℕ → Example
+  -- bytes, and the texts that they are cut into
+  cuts : String → List String → Example
 
 equal : ℤ → ℤ → Bool
 equal a b = leZ a b && leZ b a
@@ -62,6 +69,12 @@ is-refused refused = true
 is-refused notANumber = false
 is-refused (infinite s) = false
 is-refused (Reading.number s n d) = false
+
+all-same : List (List ℕ) → List (List ℕ) → Bool
+all-same [] [] = true
+all-same [] (u ∷ us) = false
+all-same (t ∷ ts) [] = false
+all-same (t ∷ ts) (u ∷ us) = same t u && all-same ts us
 
 pub holds : Example → Bool
 holds (lays d z s) = same (layout (plain d) z) (bytes s)
@@ -88,6 +101,12 @@ holds (answers call w v room n len s) =
     eqb (answer call w v room .number) n
     && eqb (answer call w v room .len) len
     && same (after call w v (buffer room)) (joins s (drop len (buffer room)))
+holds (answers-row vs room n len s) =
+    eqb (rowAnswer w32 vs room .number) n
+    && eqb (rowAnswer w32 vs room .len) len
+    && same (rowAfter w32 vs (buffer room)) (joins s (drop len (buffer room)))
+holds (numbers-row count room n) = eqb (rowNumber count room) n
+holds (cuts s ts) = all-same (cut (bytes s)) (map bytes ts)
 
 pub all : List Example → Bool
 all [] = true
@@ -203,5 +222,31 @@ list =
     ∷ []
 
 pub examples : T (all list)
-unfolding all holds equal buffer joins is-pattern is-refused list bytes countUpTo count numeral plain raised significands32 exponents32 significands64 exponents64 w32 w64 off negative biased significand allOnes special magnitude shifted upper below lower value leastTen jRaised j k index P product scaled D above under placesUnder places c first closer falls decimal zeros joined trimmed oneKept decimals exponent scientific byRule layout shown signed text isDigit extended powered exponentMore exponentFirst exponentSign decimalsMore decimalsFirst wholeMore unsigned same withFraction magnitudeOf exact infinity top low size unbounded nearest withSign refuses number answer after
+unfolding all holds equal buffer joins is-pattern is-refused list bytes countUpTo count numeral plain raised significands32 exponents32 significands64 exponents64 w32 w64 off negative biased significand allOnes special magnitude shifted upper below lower value leastTen jRaised j k index P product scaled D above under placesUnder places c first closer falls decimal zeros joined trimmed oneKept decimals exponent scientific byRule layout shown signed text isDigit extended powered exponentMore exponentFirst exponentSign decimalsMore decimalsFirst wholeMore unsigned same withFraction magnitudeOf exact infinity top low size unbounded nearest withSign refuses number answering leaving answer after
 examples = tt
+
+pub rows : List Example
+rows =
+    -- rows of none, one, two and four; a row with one byte of room too few
+    answers-row [] 0 0 0 ""
+    ∷ answers-row [] 3 0 0 ""
+    ∷ answers-row (0x3f800000 ∷ []) 26 0 3 "1.0"
+    ∷ answers-row (0x3f800000 ∷ 0xbf000000 ∷ []) 52 0 8 "1.0 -0.5"
+    ∷ answers-row (0x80000000 ∷ 0x7fc00000 ∷ 0xff800000 ∷ 0x44fa1000 ∷ []) 110 0 20 "-0.0 NaN -inf 2000.5"
+    ∷ answers-row (0x3f800000 ∷ []) 25 4 0 ""
+    ∷ answers-row (0x3f800000 ∷ 0xbf000000 ∷ []) 51 4 0 ""
+    -- 4,096 patterns are the most, and too many come before too short
+    ∷ numbers-row 4096 106496 0
+    ∷ numbers-row 4096 106495 4
+    ∷ numbers-row 4097 106522 3
+    ∷ numbers-row 4097 0 3
+    -- rows cut at their spaces
+    ∷ cuts "" []
+    ∷ cuts "1.0" ("1.0" ∷ [])
+    ∷ cuts "-0.0 NaN 1e-7" ("-0.0" ∷ "NaN" ∷ "1e-7" ∷ [])
+    ∷ cuts " 1.0 " ("" ∷ "1.0" ∷ "" ∷ [])
+    ∷ []
+
+pub row-examples : T (all rows)
+unfolding all holds all-same buffer joins rows bytes countUpTo count numeral plain raised significands32 exponents32 w32 off negative biased significand allOnes special magnitude shifted upper below lower value leastTen jRaised j k index P product scaled D above under placesUnder places c first closer falls decimal zeros joined trimmed oneKept decimals exponent scientific byRule layout shown signed text same answering leaving spaced row rowNumber rowAnswer rowAfter onto pieces cut
+row-examples = tt

@@ -27,13 +27,18 @@ pub record Answer : Type 0 where
   pub number : ℕ
   pub len : ℕ
 
--- What a call answers. A refusal has length 0.
-unfoldable pub answer : Entry → Width → ℕ → ℕ → Answer
-answer c w v room =
-    let n = number c w v room in
-    record { number = n; len = elim (eqb n 0) [ true ↦ length (text w v) | false ↦ 0 ] }
+-- The answer with a number and a text: at 0 the text's length. A refusal has length 0.
+unfoldable pub answering : ℕ → List ℕ → Answer
+answering n t = record { number = n; len = elim (eqb n 0) [ true ↦ length t | false ↦ 0 ] }
 
--- The buffer after a call: the text from byte 0, and every byte from its length on as before. A refusal changes no byte.
+-- The buffer after it: the text from byte 0, and every byte from its length on as before. A refusal changes no byte.
+unfoldable pub leaving : ℕ → List ℕ → List ℕ → List ℕ
+leaving n t buf = elim (eqb n 0) [ true ↦ t ++ drop (length t) buf | false ↦ buf ]
+
+-- What a call answers, by the room in the lent buffer.
+unfoldable pub answer : Entry → Width → ℕ → ℕ → Answer
+answer c w v room = answering (number c w v room) (text w v)
+
+-- The buffer after a call.
 unfoldable pub after : Entry → Width → ℕ → List ℕ → List ℕ
-after c w v buf =
-    elim (eqb (number c w v (length buf)) 0) [ true ↦ text w v ++ drop (length (text w v)) buf | false ↦ buf ]
+after c w v buf = leaving (number c w v (length buf)) (text w v) buf

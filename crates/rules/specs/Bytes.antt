@@ -25,3 +25,7 @@ minus = 45
 -- The byte of `e`.
 abbrev pub letterE : ℕ
 letterE = 101
+
+-- The byte of a space.
+abbrev pub space : ℕ
+space = 32

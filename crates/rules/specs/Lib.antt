@@ -13,3 +13,4 @@ pub mod Text
 pub mod Reading
 pub mod Midpoints
 pub mod Answer
+pub mod Row

@@ -14,6 +14,7 @@ pub mod Scale
 pub mod Readable
 pub mod Printable
 pub mod Decimal
+pub mod Results
 pub mod TextLength
 pub mod Units
 pub mod Worth
@@ -28,4 +29,6 @@ pub mod RoundTrip
 pub mod Decoding
 pub mod Signs
 pub mod Ieee
+pub mod Visible
+pub mod Rows
 pub mod Promises

@@ -1,20 +1,24 @@
 -- What is promised of the rules, at 32 and at 64 bits: each a line that cites the one law over the width. Assumes nothing.
 use mathlib.Core.Bool.{Bool, not}
+use mathlib.Core.List.{List, [], map}
 use mathlib.Core.Path.{_≡_}
 use Prim.Native.Nat.{ℕ, suc, _^_, _≤_, _<_}
 use lib.Dec.{T}
 use lib.Ieee.{binary32, binary64, round, ofBits}
+use lib.ListN.{length, getD}
 use Rattle.rules.specs.Width.{Width, w32, w64}
 use Rattle.rules.specs.Pattern.{special, magnitude}
 use Rattle.rules.specs.Digits.{decimal}
 use Rattle.rules.specs.Text.{text}
 use Rattle.rules.specs.Reading.{number, exact, IsNearest, withSign, ReadsAs}
+use Rattle.rules.specs.Row.{row, cut}
 use Rattle.theorems.proofs.Widths.{w16}
 use Rattle.theorems.proofs.Scale.{finite}
 use Rattle.theorems.proofs.Printable.{Printable, printable16, printable32, printable64}
 use Rattle.theorems.proofs.Decimal.{printed}
 use Rattle.theorems.proofs.TextLength.{Within, text-length}
 use Rattle.theorems.proofs.Decoding.{agree32, agree64}
+use Rattle.theorems.proofs.Rows.{FinitePatterns, cut-row, row-restored, same-row}
 use Rattle.theorems.proofs.RoundTrip.{Inside, inside, restored, only-restored, rounded, distinct}
 
 -- A finite pattern other than zero.
@@ -89,3 +93,17 @@ pub rounded64 : (v : ℕ) → v < 2 ^ 64 → T (not (special w64 v)) → (s : Bo
     round binary64 s n d ≡ ofBits binary64 v
 unfolding w64
 rounded64 = rounded binary64 w64 16 agree64 printable64
+
+-- Cut at its spaces, a row gives the texts of its patterns.
+pub cut-row32 : (vs : List ℕ) → cut (row w32 vs) ≡ map (text w32) vs
+cut-row32 = cut-row w32 8 printable32
+
+-- Each of them reads as its pattern, if that is finite.
+pub row-restored32 : (vs : List ℕ) (i : ℕ) → i < length vs → getD vs i 0 < 2 ^ 32 → T (not (special w32 (getD vs i 0))) →
+    ReadsAs w32 (getD (cut (row w32 vs)) i []) (getD vs i 0)
+unfolding w32
+row-restored32 = row-restored w32 8 printable32
+
+-- Two rows of finite patterns with the same bytes are the same row.
+pub same-row32 : (us vs : List ℕ) → FinitePatterns w32 us → FinitePatterns w32 vs → row w32 us ≡ row w32 vs → us ≡ vs
+same-row32 = same-row w32 8 printable32

@@ -1,12 +1,12 @@
 -- The text of every pattern has 3 to 25 bytes, and a call leaves a buffer as long as it was. Assumes nothing.
 use mathlib.Core.Bool.{not}
 use mathlib.Core.List.{List}
-use mathlib.Core.Path.{_≡_, refl, sym, _∙_}
+use mathlib.Core.Path.{_≡_, sym, _∙_}
 use Prim.Native.Nat.{ℕ, _+_, _≤_, _<_}
 use native.Mathlib.Nat.{pos-of-ne-zero}
 use native.Mathlib.Omega.{arith}
-use lib.Dec.{T, eqb, eqb→eq, ltb, nltb→le, T-not}
-use lib.ListN.{length, length-append, length-drop}
+use lib.Dec.{T, eqb, ltb, nltb→le, T-not}
+use lib.ListN.{length}
 use Rattle.laws.proofs.Differences as difference
 use Rattle.laws.proofs.Differences.{mag-size}
 use Rattle.laws.proofs.Branches.{either}
@@ -24,6 +24,7 @@ use Rattle.theorems.proofs.Boundaries.{Finite}
 use Rattle.theorems.proofs.Scale.{finite}
 use Rattle.theorems.proofs.Printable.{Printable}
 use Rattle.theorems.proofs.Decimal.{printed}
+use Rattle.theorems.proofs.Results.{left-length}
 
 -- A length from 3 to n.
 pub record Within (n : ℕ) (t : List ℕ) : Type 0 where
@@ -86,9 +87,4 @@ module _ (w : Width) (q : ℕ) (p : Printable w q) where
   -- A call leaves a buffer as long as it was.
   pub after-length : (c : Entry) (v : ℕ) (buf : List ℕ) → length (after c w v buf) ≡ length buf
   unfolding after
-  after-length c v buf =
-      either (λ (t : List ℕ). length t ≡ length buf) (eqb (number c w v (length buf)) 0)
-      (λ t.
-      let room = printed-room c w v (length buf) (eqb→eq (number c w v (length buf)) 0 t) in
-      simp (length-append, length-drop) (omega (arith, text-length v .most)))
-      (λ t. refl)
+  after-length c v buf = left-length (number c w v (length buf)) (text w v) buf (λ e. omega (arith, printed-room c w v (length buf) e, text-length v .most))
