@@ -1,6 +1,7 @@
 -- `dtoa_c::answered` meets its contract. Assumes nothing.
 use native.Mathlib.Omega.{arith}
-use Rattle.dtoa_c.proofs.Answering.{length-of-printed}
+use Rattle.dtoa.specs.Meets.{told}
+use Rattle.dtoa_c.proofs.Answering.{numbers-of}
 use borrow.Author.Needs.{needs}
 use Rattle.dtoa_c.proofs.answered.Statement.{statement}
 use Rattle.dtoa_c.proofs.answered.Tie as tie
@@ -11,8 +12,7 @@ enum-known-o c = search needs
 cast-t4 : tie.Need-cast-t4
 cast-t4 c =
     let start = c .before .before .before in
-    let small = length-of-printed (c .before .o .given .1) in
-    omega (arith, small, start .pre)
+    omega (arith, numbers-of told (c .before .o .given .1) .1, start .pre)
 
 enum-told : tie.Need-enum-told
 enum-told c = search needs
@@ -24,10 +24,10 @@ returns : tie.Need-returns
 returns c = search needs
 
 returns-2 : tie.Need-returns-2
-returns-2 c = search needs
+returns-2 c = numbers-of told (c .enum-told .given .1)
 
 returns-3 : tie.Need-returns-3
-returns-3 c = search needs
+returns-3 c = numbers-of told (c .enum-told2 .given .1)
 
 pub answered-spec : {M : Type 1} → statement M
 answered-spec =
