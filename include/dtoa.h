@@ -21,24 +21,38 @@
 extern "C" {
 #endif
 
-/* The longest text has this many bytes. A buffer with room for them serves every number; a shorter one serves none. */
+/* The longest text of a number has this many bytes. A buffer with room for them serves every number; a shorter one serves
+   none. */
 #define DTOA_ROOM 25
+
+/* A row has at most this many numbers. */
+#define DTOA_ROW_LIMIT 4096
+
+/* A buffer with this many bytes for each number of a row, the longest text and a space, serves every such row; a shorter one
+   serves none. */
+#define DTOA_ROW_ROOM 26
 
 /* What the number of an answer says. */
 enum {
-    DTOA_PRINTED = 0,    /* the text stands in the buffer, from its first byte on */
-    DTOA_TOO_SHORT = 1,  /* refused: the buffer has fewer than DTOA_ROOM bytes. This is looked at first */
-    DTOA_NOT_FINITE = 2  /* refused, by the finite-only functions: the pattern is a NaN or an infinity */
+    DTOA_PRINTED = 0,       /* the text stands in the buffer, from its first byte on */
+    DTOA_TOO_SHORT = 1,     /* refused, by the functions for one number: the buffer has fewer than DTOA_ROOM bytes. This is
+                               looked at first */
+    DTOA_NOT_FINITE = 2,    /* refused, by the finite-only functions: the pattern is a NaN or an infinity */
+    DTOA_TOO_MANY = 3,      /* refused, by the function for a row: there are more than DTOA_ROW_LIMIT patterns. This is looked
+                               at first */
+    DTOA_ROW_TOO_SHORT = 4  /* refused, by the function for a row: the buffer has fewer than DTOA_ROW_ROOM bytes for each
+                               pattern */
 };
 
 /* What a call answers. */
 struct dtoa_printed {
-    uint32_t number; /* DTOA_PRINTED, DTOA_TOO_SHORT or DTOA_NOT_FINITE */
-    uint32_t length; /* the bytes of the text, 3 to 25; 0 after a refusal */
+    uint32_t number; /* one of the five above */
+    uint32_t length; /* the bytes of the text: 3 to DTOA_ROOM for a number; 0 for a row of no numbers, and for any other fewer
+                        than DTOA_ROW_ROOM for each of them. After a refusal 0 */
 };
 
-/* All four functions take the number as its bit pattern, and a buffer that the caller lends: buf points to len bytes, and is
-   not null even where len is 0.
+/* The four functions for one number take it as its bit pattern, and a buffer that the caller lends: buf points to len bytes,
+   and is not null even where len is 0.
 
    Printed: the text is buf[0] to buf[length - 1], in ASCII. No zero byte is put behind it: every byte from buf[length] on is
    as it was before the call. Refused: the whole buffer is as it was. */
@@ -54,6 +68,21 @@ struct dtoa_printed dtoa_format_finite32(uint32_t bits, uint8_t *buf, size_t len
 
 /* Prints a finite binary64 number, and refuses a NaN and an infinity with DTOA_NOT_FINITE. */
 struct dtoa_printed dtoa_format_finite64(uint64_t bits, uint8_t *buf, size_t len);
+
+/* Prints a row of 0 to DTOA_ROW_LIMIT binary32 numbers: the text of each as dtoa_format32 prints it, in their order, with one
+   space between two and none at the end. No patterns are printed as no text, which is no refusal.
+
+   patterns points to count bit patterns, out to len bytes that the caller lends and that share none with the patterns. Neither
+   is null, even where count or len is 0. The row's text is out[0] to out[length - 1]; every byte from out[length] on, and after
+   a refusal the whole buffer, is as it was before the call.
+
+       uint32_t patterns[3] = {0x3f800000, 0x80000000, 0x7fc00000};
+       uint8_t row[3 * DTOA_ROW_ROOM];
+       struct dtoa_printed printed = dtoa_format_row32(patterns, 3, row, sizeof row);
+       printf("%.*s\n", (int)printed.length, (const char *)row);
+
+   prints "1.0 -0.0 NaN". */
+struct dtoa_printed dtoa_format_row32(const uint32_t *patterns, size_t count, uint8_t *out, size_t len);
 
 #ifdef __cplusplus
 }
