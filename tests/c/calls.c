@@ -1,16 +1,8 @@
-/* Calls the four functions of include/dtoa.h as a C program would, and checks number, length, text and every other byte. */
+/* Calls the four functions for one number as a C program would. */
 #include <inttypes.h>
 #include <stdio.h>
-#include <stdlib.h>
-#include <string.h>
 
-#include "dtoa.h"
-
-/* The lent buffer stands between two fences, which no call may touch. */
-enum { FENCE = 64, LARGEST = 4096, WHOLE = FENCE + LARGEST + FENCE };
-
-/* What every byte holds before a call: no text has this byte. */
-static const uint8_t fill = 0xA5;
+#include "lent.h"
 
 enum entry { FORMAT32, FORMAT64, FORMAT_FINITE32, FORMAT_FINITE64 };
 
@@ -81,36 +73,17 @@ static struct dtoa_printed answer(const struct expected *e, uint8_t *buf) {
     }
 }
 
-/* Says which call was wrong, and ends the program. */
-static void wrong(const struct expected *e, const char *what, long got, long wanted) {
+static void check_call(const struct expected *e) {
     int digits = e->entry == FORMAT32 || e->entry == FORMAT_FINITE32 ? 8 : 16;
-    fprintf(stderr, "tests/c/calls.c: %s(0x%0*" PRIx64 ") with a buffer of %zu bytes, which is to give number %u and \"%s\": ",
-            names[e->entry], digits, e->bits, e->room, (unsigned)e->number, e->text);
-    fprintf(stderr, "%s is %ld and should be %ld\n", what, got, wanted);
-    exit(1);
-}
-
-static void check(const struct expected *e) {
-    static uint8_t whole[WHOLE];
-    uint8_t *buf = whole + FENCE;
-    size_t length = strlen(e->text);
-    memset(whole, fill, sizeof whole);
-    struct dtoa_printed printed = answer(e, buf);
-    if (printed.number != e->number) wrong(e, "the number", (long)printed.number, (long)e->number);
-    if (printed.length != length) wrong(e, "the length", (long)printed.length, (long)length);
-    for (long at = -FENCE; at < LARGEST + FENCE; at++) {
-        int wanted = at >= 0 && (size_t)at < length ? (uint8_t)e->text[at] : fill;
-        if (buf[at] != wanted) {
-            char what[64];
-            snprintf(what, sizeof what, "the byte at %ld", at);
-            wrong(e, what, buf[at], wanted);
-        }
-    }
+    char call[100];
+    snprintf(call, sizeof call, "%s(0x%0*" PRIx64 ") with a buffer of %zu bytes", names[e->entry], digits, e->bits, e->room);
+    struct wanted wanted = {call, e->number, e->text};
+    check(&wanted, answer(e, lend()));
 }
 
 int main(void) {
     size_t calls = sizeof list / sizeof list[0];
-    for (size_t i = 0; i < calls; i++) check(&list[i]);
+    for (size_t i = 0; i < calls; i++) check_call(&list[i]);
     printf("tests/c/calls.c: %zu calls, every number, length, text and untouched byte as expected\n", calls);
     return 0;
 }

@@ -1,5 +1,5 @@
 #!/bin/sh
-# make test-c: compiles calls.c against include/dtoa.h and the archive, and runs it.
+# make test-c: compiles calls.c and rows.c against include/dtoa.h and the archive, and runs them.
 set -eu
 cd "$(dirname "$0")/../.."
 name=test-c
@@ -8,5 +8,8 @@ name=test-c
 need_program "${CC:=cc}" 'C compiler'
 need_archive
 mkdir -p target/tools
-"$CC" -std=c11 -O2 -Wall -Wextra -Werror -Iinclude -o target/tools/calls tests/c/calls.c "$library/libdtoa_c.a"
-target/tools/calls
+for program in calls rows; do
+    "$CC" -std=c11 -O2 -Wall -Wextra -Werror -Iinclude -o "target/tools/$program" \
+        "tests/c/$program.c" tests/c/lent.c "$library/libdtoa_c.a"
+    "target/tools/$program"
+done
