@@ -1,7 +1,12 @@
-//! The four functions of `libdtoa_c.a` (`include/dtoa.h`), and the one place that calls them: all of the crate's `unsafe` is here.
+//! The functions of `libdtoa_c.a` (`include/dtoa.h`), and the one place that calls them: all of the crate's `unsafe` is here.
+
+use crate::row::RowError;
 
 /// A buffer of so many bytes serves every number, and no shorter one does.
 pub const ROOM: usize = 25;
+
+/// `DTOA_TOO_MANY`. A row has one other refusal.
+const TOO_MANY: u32 = 3;
 
 /// `struct dtoa_printed`.
 #[repr(C)]
@@ -15,9 +20,10 @@ extern "C" {
     fn dtoa_format64(bits: u64, buf: *mut u8, len: usize) -> Printed;
     fn dtoa_format_finite32(bits: u32, buf: *mut u8, len: usize) -> Printed;
     fn dtoa_format_finite64(bits: u64, buf: *mut u8, len: usize) -> Printed;
+    fn dtoa_format_row32(patterns: *const u32, count: usize, out: *mut u8, len: usize) -> Printed;
 }
 
-/// One of the four functions. None but the constants below can be made, since the field is private to this file.
+/// One of the four functions for one number. None but the constants below can be made, since the field is private to this file.
 pub struct Entry<Bits>(unsafe extern "C" fn(Bits, *mut u8, usize) -> Printed);
 
 pub const FORMAT32: Entry<u32> = Entry(dtoa_format32);
@@ -40,6 +46,26 @@ impl<Bits> Entry<Bits> {
                 return None;
             }
             Some(core::str::from_utf8_unchecked(bytes.get_unchecked(..printed.length as usize)))
+        }
+    }
+}
+
+/// Prints a row of numbers into `out`, and hands out its text.
+#[inline]
+pub fn print_row<'a>(numbers: &[f32], out: &'a mut [u8]) -> Result<&'a str, RowError> {
+    // SAFETY: the call. The declaration above is that of include/dtoa.h. It asks for `count` patterns at `patterns` that it may
+    // read while it runs: `numbers` are so many, and an f32 has the size, the alignment and the bits of its pattern, a u32. It
+    // asks for `len` bytes at `out` that it may read and write: `out` is lent to it alone, so shares none with `numbers`, and its
+    // bytes are initialised. No slice's pointer is null, not even an empty one's. It keeps no pointer, and does not unwind: it
+    // is proved to end, without a panic.
+    // The text. It is proved that a call answering number 0 has put `length` bytes of text at the start of `out`, each of them a
+    // space or one of a number's text, as above: so the range lies in `out`, and is ASCII.
+    unsafe {
+        let printed = dtoa_format_row32(numbers.as_ptr().cast(), numbers.len(), out.as_mut_ptr(), out.len());
+        match printed.number {
+            0 => Ok(core::str::from_utf8_unchecked(out.get_unchecked(..printed.length as usize))),
+            TOO_MANY => Err(RowError::TooMany),
+            _ => Err(RowError::TooShort),
         }
     }
 }

@@ -23,6 +23,13 @@
 //! assert_eq!(buffer.format_finite(f32::NAN), None);
 //! ```
 //!
+//! Beyond the original, [`format_row`] prints up to 4,096 `f32` in one call, with a space between two:
+//!
+//! ```
+//! let mut out = [0; malekoco::row_room(3)];
+//! assert_eq!(malekoco::format_row(&[0.0, 1.5, f32::INFINITY], &mut out), Ok("0.0 1.5 inf"));
+//! ```
+//!
 //! A printed number parses as the very same number:
 //!
 //! ```
@@ -36,8 +43,11 @@
 #![deny(missing_docs)]
 
 mod archive;
+mod row;
 
 use archive::{Entry, ROOM};
+
+pub use row::{format_row, row_room, RowError, ROW_LIMIT};
 
 /// Room for the text of one number.
 ///

@@ -3,18 +3,13 @@
 // 2.71828 is a number like any other here.
 #![allow(clippy::approx_constant)]
 
+mod patterns;
+
 use malekoco::{Buffer, Float};
+use patterns::patterns;
 
 fn text<F: Float>(number: F) -> String {
     Buffer::new().format(number).to_owned()
-}
-
-/// Numbers of every size and both signs, the same at each run.
-fn patterns() -> impl Iterator<Item = u64> {
-    (1..=200_000u64).map(|n| {
-        let mixed = (n ^ n << 29).wrapping_mul(0xbf58_476d_1ce4_e5b9);
-        (mixed ^ mixed >> 32).wrapping_mul(0x94d0_49bb_1331_11eb)
-    })
 }
 
 #[test]
