@@ -3,8 +3,8 @@
 #                 it the archive called from C and Rust and held against the crate on a sample
 # make test-c     call the archive from C, through include/dtoa.h
 # make test-rust  call the archive from Rust, through bindings/rust
-# make compare    call the archive and the unchanged crate with the same patterns: all of f32, and 500 million random ones of f64
-#                 (QUICK=1: a sample; SEED=NUMBER: the random ones; REPORT=1: write docs/COMPARISON.md)
+# make compare    call the archive and the unchanged crate with the same patterns: all of f32, 500 million random ones of f64, and
+#                 100,000 rows of f32 (QUICK=1: a sample; SEED=NUMBER: the random ones; REPORT=1: write docs/COMPARISON.md)
 # make bench      time our calls beside the crate's, and beside ryu's, fmt's and Dragonbox's where Debian's packages are installed
 #                 (REPORT=1: write docs/PERFORMANCE.md and docs/performance.svg)
 # make list       write the stored list of the program replay, crates/replay/data/list.txt, from the unchanged crate

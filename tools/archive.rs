@@ -15,4 +15,5 @@ extern "C" {
     pub fn dtoa_format64(bits: u64, buf: *mut u8, len: usize) -> Printed;
     pub fn dtoa_format_finite32(bits: u32, buf: *mut u8, len: usize) -> Printed;
     pub fn dtoa_format_finite64(bits: u64, buf: *mut u8, len: usize) -> Printed;
+    pub fn dtoa_format_row32(patterns: *const u32, count: usize, out: *mut u8, len: usize) -> Printed;
 }

@@ -1,14 +1,15 @@
-//! Calls of the archive, held against what they are to answer: docs/RULES.md says which number, the crate which text.
+//! Calls of the archive for one number, held against what they are to answer: docs/RULES.md says which number, the crate which
+//! text.
 
 use crate::archive::Printed;
-use crate::lent::Lent;
-use crate::plan::ROOM;
+use crate::lent::{fenced, Lent};
+use crate::plan::{LARGEST, ROOM};
 use crate::report::Differences;
 use crate::width::{Entry, Width};
 
 /// What a thread needs to make calls.
 pub struct Caller<'a> {
-    lent: Lent,
+    lent: Lent<{ fenced(LARGEST) }>,
     original: dtoa::Buffer,
     pub differences: &'a Differences,
     pub calls: u64,
@@ -86,9 +87,7 @@ impl<'a> Caller<'a> {
                 let call = format!("{}(0x{bits:0digits$x})", W::name(entry), digits = W::BITS as usize / 4);
                 let wanted = format!("number {}, length {}, {text:?}", wanted.number, wanted.length);
                 let got = format!("number {}, length {length}, \"{}\"", got.number, lent.text(length).escape_ascii());
-                let strays: String = lent.strays(length).take(8).map(|(at, byte)| format!(" {at}:{byte:02x}")).collect();
-                let changed = if strays.is_empty() { "" } else { ", and changed bytes that are to stay, place:value" };
-                format!("{call}, buffer of {room} bytes\n  wanted  {wanted}\n  got     {got}{changed}{strays}")
+                format!("{call}, buffer of {room} bytes\n  wanted  {wanted}\n  got     {got}{}", lent.strays(length))
             });
         }
         self.lent.refill();

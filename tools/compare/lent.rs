@@ -1,23 +1,20 @@
 //! The buffer that is lent to the archive: it stands between two fences, and every byte of all three has a value of its own
 //! place, which no text has.
 //!
-//! Only the bytes that a text can reach are looked at and put right after every call. Any other byte keeps what was written
-//! to it, so that one look at the whole finds a stray write of any call before it.
+//! In the long runs of single numbers only the bytes that a text can reach are looked at and put right after every call. Any
+//! other byte keeps what was written to it, so that one look at the whole finds a stray write of any call before it.
 
-/// The longest buffer that is lent.
-pub const LARGEST: usize = 4096;
-
-/// The bytes at its start that are looked at after every call: those of the longest text, and some behind them.
+/// The bytes at the buffer's start that are looked at after every call: those of the longest text, and some behind them.
 const NEAR: usize = 32;
 
 const FENCE: usize = 64;
 
-const WHOLE: usize = FENCE + LARGEST + FENCE;
+/// The bytes of a buffer of this length and of its fences.
+pub const fn fenced(length: usize) -> usize {
+    FENCE + length + FENCE
+}
 
-/// What every byte holds before a call.
-static FILL: [u8; WHOLE] = fill();
-
-const fn fill() -> [u8; WHOLE] {
+const fn fill<const WHOLE: usize>() -> [u8; WHOLE] {
     let mut bytes = [0; WHOLE];
     let mut at = 0;
     while at < WHOLE {
@@ -29,7 +26,7 @@ const fn fill() -> [u8; WHOLE] {
 
 /// The fill of the near bytes.
 const NEAR_FILL: [u8; NEAR] = {
-    let (whole, mut near, mut at) = (fill(), [0; NEAR], 0);
+    let (whole, mut near, mut at) = (fill::<{ fenced(NEAR) }>(), [0; NEAR], 0);
     while at < NEAR {
         near[at] = whole[FENCE + at];
         at += 1;
@@ -37,13 +34,20 @@ const NEAR_FILL: [u8; NEAR] = {
     near
 };
 
-pub struct Lent {
+/// A buffer and its fences, of `WHOLE` bytes together.
+pub struct Lent<const WHOLE: usize> {
     bytes: Box<[u8; WHOLE]>,
 }
 
-impl Lent {
-    pub fn new() -> Lent {
-        Lent { bytes: Box::new(FILL) }
+impl<const WHOLE: usize> Lent<WHOLE> {
+    /// What every byte holds before a call.
+    const FILL: &'static [u8; WHOLE] = &fill();
+
+    /// The length of the buffer.
+    const LENGTH: usize = WHOLE - fenced(0);
+
+    pub fn new() -> Lent<WHOLE> {
+        Lent { bytes: Box::new(*Self::FILL) }
     }
 
     /// The start of the lent buffer.
@@ -78,24 +82,29 @@ impl Lent {
 
     /// Gives every byte its fill.
     pub fn refill(&mut self) {
-        *self.bytes = FILL;
+        *self.bytes = *Self::FILL;
     }
 
     /// The first `length` bytes of the lent buffer, or all of it.
     pub fn text(&self, length: usize) -> &[u8] {
-        &self.bytes[FENCE..FENCE + length.min(LARGEST)]
+        &self.bytes[FENCE..FENCE + length.min(Self::LENGTH)]
     }
 
     /// Whether every byte outside the first `length` has its fill.
     pub fn stayed(&self, length: usize) -> bool {
-        let behind = FENCE + length.min(LARGEST);
-        self.bytes[..FENCE] == FILL[..FENCE] && self.bytes[behind..] == FILL[behind..]
+        let behind = FENCE + length.min(Self::LENGTH);
+        self.bytes[..FENCE] == Self::FILL[..FENCE] && self.bytes[behind..] == Self::FILL[behind..]
     }
 
-    /// Where bytes outside the first `length` lack their fill, counted from the start of the lent buffer, and what they hold.
-    pub fn strays(&self, length: usize) -> impl Iterator<Item = (isize, u8)> + '_ {
+    /// Says of a call which bytes it changed that are to stay, those outside the first `length`; nothing where it changed none.
+    pub fn strays(&self, length: usize) -> String {
         let text = FENCE..FENCE + length;
-        let lacking = (0..WHOLE).filter(move |at| !text.contains(at) && self.bytes[*at] != FILL[*at]);
-        lacking.map(|at| (at as isize - FENCE as isize, self.bytes[at]))
+        let lacking = (0..WHOLE).filter(|at| !text.contains(at) && self.bytes[*at] != Self::FILL[*at]);
+        let shown: String =
+            lacking.take(8).map(|at| format!(" {}:{:02x}", at as isize - FENCE as isize, self.bytes[at])).collect();
+        match shown.as_str() {
+            "" => shown,
+            _ => format!(", and changed bytes that are to stay, place:value{shown}"),
+        }
     }
 }

@@ -12,6 +12,7 @@ mod plan;
 #[path = "../random.rs"]
 mod random;
 mod report;
+mod rows;
 mod width;
 
 use std::process::exit;
@@ -24,6 +25,7 @@ use options::Options;
 use plan::{edges, rooms, serving, spread, too_short, Block, Plan};
 use random::random;
 use report::{duration, grouped, Differences};
+use rows::Rows;
 use width::{Binary32, Binary64, Width, ENTRIES};
 
 /// Each of the patterns in every buffer, at both entries.
@@ -71,15 +73,16 @@ fn compare_block<W: Width>(caller: &mut Caller, first: u64, end: u64, pattern: i
 
 /// Takes blocks until none is left.
 fn work(plan: &Plan, next: &AtomicU64, done: &AtomicU64, differences: &Differences) -> u64 {
-    let mut caller = Caller::new(differences);
+    let (mut caller, mut rows) = (Caller::new(differences), Rows::new(differences));
     loop {
         let i = next.fetch_add(1, Relaxed);
         if i >= plan.blocks() {
-            return caller.calls;
+            return caller.calls + rows.calls;
         }
         match plan.block(i) {
             Block::All32 { first, end } => compare_block::<Binary32>(&mut caller, first, end, spread),
             Block::Random64 { first, end } => compare_block::<Binary64>(&mut caller, first, end, |n| random(plan.seed, n)),
+            Block::Rows { first, end } => (first..end).for_each(|n| rows.compare_random(plan.seed, n)),
         }
         done.fetch_add(1, Relaxed);
     }
@@ -105,23 +108,8 @@ fn compare_sweeps(plan: &Plan, threads: usize, differences: &Differences) -> u64
     })
 }
 
-fn main() {
-    let options = Options::read();
-    let plan = if options.quick {
-        Plan { seed: options.seed, all32: 1 << 24, random64: 4_000_000 }
-    } else {
-        Plan { seed: options.seed, all32: 1 << 32, random64: 500_000_000 }
-    };
-    let threads = thread::available_parallelism().map_or(1, |n| n.get());
-    let differences = Differences::new();
-    let began = Instant::now();
-    println!("seed {:#018x}, threads {threads}{}", plan.seed, if options.quick { ", a sample only" } else { "" });
-
-    let mut caller = Caller::new(&differences);
-    let edges32 = compare_edges::<Binary32>(&mut caller);
-    let edges64 = compare_edges::<Binary64>(&mut caller);
-    let calls = caller.calls + compare_sweeps(&plan, threads, &differences);
-
+/// Says which patterns were compared one by one.
+fn print_patterns(plan: &Plan, edges32: u64, edges64: u64) {
     println!("f32: {} patterns{}", grouped(plan.all32), if plan.all32 == 1 << 32 { ", which are all" } else { "" });
     println!("f64: {} random patterns", grouped(plan.random64));
     println!("  each at both entries, in a buffer of 25 to 64 or 4,096 bytes in turn, and in one of 0 to 24 bytes");
@@ -131,6 +119,38 @@ fn main() {
         grouped(edges32),
         grouped(edges64)
     );
+}
+
+/// Says which rows were compared.
+fn print_rows(plan: &Plan, edge_rows: u64) {
+    println!(
+        "rows of f32: {} of random lengths up to 4,097, of random patterns, those of every exponent, NaNs and infinities",
+        grouped(plan.rows)
+    );
+    println!("  and {} of 0, 1, 2, 4,096 and 4,097 patterns, those of every exponent in turn", grouped(edge_rows));
+    println!("  each in a buffer of 0 bytes, of one too few, of 26 for each pattern, and of 1 to 64 more");
+}
+
+fn main() {
+    let options = Options::read();
+    let plan = if options.quick {
+        Plan { seed: options.seed, all32: 1 << 24, random64: 4_000_000, rows: 1_000 }
+    } else {
+        Plan { seed: options.seed, all32: 1 << 32, random64: 500_000_000, rows: 100_000 }
+    };
+    let threads = thread::available_parallelism().map_or(1, |n| n.get());
+    let differences = Differences::new();
+    let began = Instant::now();
+    println!("seed {:#018x}, threads {threads}{}", plan.seed, if options.quick { ", a sample only" } else { "" });
+
+    let (mut caller, mut rows) = (Caller::new(&differences), Rows::new(&differences));
+    let edges32 = compare_edges::<Binary32>(&mut caller);
+    let edges64 = compare_edges::<Binary64>(&mut caller);
+    let edge_rows = rows.compare_edges();
+    let calls = caller.calls + rows.calls + compare_sweeps(&plan, threads, &differences);
+
+    print_patterns(&plan, edges32, edges64);
+    print_rows(&plan, edge_rows);
     println!("compare: {} differences in {} calls, {}", grouped(differences.count()), grouped(calls), duration(began.elapsed()));
     exit(i32::from(differences.count() > 0));
 }

@@ -1,10 +1,10 @@
 //! What is compared: which patterns, in which order, with buffers of which lengths.
 
-use crate::lent::LARGEST;
 use crate::width::Width;
 
-/// The shortest buffer that serves.
+/// The shortest buffer that serves, and the longest that is lent.
 pub const ROOM: usize = 25;
+pub const LARGEST: usize = 4096;
 
 /// The lengths of the lent buffers: 0 to 64, and the largest.
 pub fn rooms() -> impl Iterator<Item = usize> {
@@ -41,21 +41,35 @@ pub fn edges<W: Width>() -> impl Iterator<Item = u64> {
     magnitudes.flat_map(|magnitude| [magnitude, 1 << (W::BITS - 1) | magnitude])
 }
 
-/// The sweeps are cut into blocks of this many patterns.
+/// The sweeps are cut into blocks of this many patterns, or of this many rows, which take about as long.
 const BLOCK: u64 = 1 << 16;
+const ROW_BLOCK: u64 = 1 << 7;
 
-/// A block of a sweep: patterns from `first` on, below `end`.
+/// A block of a sweep: patterns or rows from `first` on, below `end`.
 #[derive(Clone, Copy)]
 pub enum Block {
     All32 { first: u64, end: u64 },
     Random64 { first: u64, end: u64 },
+    Rows { first: u64, end: u64 },
 }
 
-/// How many patterns each sweep has.
+/// How many patterns or rows each sweep has.
 pub struct Plan {
     pub seed: u64,
     pub all32: u64,
     pub random64: u64,
+    pub rows: u64,
+}
+
+/// Of `all` blocks `few` are of one sweep, spread evenly. Says whether block number `i` is one of them, and which number it has
+/// among them or among the others.
+fn turn(i: u64, few: u64, all: u64) -> (bool, u64) {
+    let (before, after) = (i * few / all, (i + 1) * few / all);
+    if before < after {
+        (true, before)
+    } else {
+        (false, i - before)
+    }
 }
 
 impl Plan {
@@ -63,21 +77,33 @@ impl Plan {
         self.random64.div_ceil(BLOCK)
     }
 
-    pub fn blocks(&self) -> u64 {
+    fn blocks_of_patterns(&self) -> u64 {
         self.all32.div_ceil(BLOCK) + self.blocks64()
     }
 
-    /// Block number `i`. Those of the two sweeps stand in turn, as evenly as their counts allow, so that the work goes on at
-    /// one pace and the time left can be told.
+    fn blocks_of_rows(&self) -> u64 {
+        self.rows.div_ceil(ROW_BLOCK)
+    }
+
+    pub fn blocks(&self) -> u64 {
+        self.blocks_of_patterns() + self.blocks_of_rows()
+    }
+
+    /// Block number `i`. Those of the sweeps stand in turn, as evenly as their counts allow, so that the work goes on at one
+    /// pace and the time left can be told.
     pub fn block(&self, i: u64) -> Block {
-        let before = i * self.blocks64() / self.blocks();
-        let after = (i + 1) * self.blocks64() / self.blocks();
-        let part = |number: u64, of: u64| (number * BLOCK, of.min((number + 1) * BLOCK));
-        if before < after {
-            let (first, end) = part(before, self.random64);
+        let part = |number: u64, size: u64, of: u64| (number * size, of.min((number + 1) * size));
+        let (is_of_rows, i) = turn(i, self.blocks_of_rows(), self.blocks());
+        if is_of_rows {
+            let (first, end) = part(i, ROW_BLOCK, self.rows);
+            return Block::Rows { first, end };
+        }
+        let (is_64, i) = turn(i, self.blocks64(), self.blocks_of_patterns());
+        if is_64 {
+            let (first, end) = part(i, BLOCK, self.random64);
             Block::Random64 { first, end }
         } else {
-            let (first, end) = part(i - before, self.all32);
+            let (first, end) = part(i, BLOCK, self.all32);
             Block::All32 { first, end }
         }
     }

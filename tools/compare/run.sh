@@ -37,7 +37,9 @@ Every call goes through the archive `libdtoa_c.a`, as a C program would make it.
 pattern is the text that is wanted; where a call is to be refused, [RULES.md](RULES.md), section 6, says with which number.
 Compared are the number, the length, the text, and the bytes that are to stay: those behind the text, the whole buffer after a
 refusal, and a fence on either side of it. In the long runs the crate's `format` is asked once for both of our entries, since at a
-finite pattern it is its `format_finite`; at the patterns of every exponent each entry is held against the crate's own.
+finite pattern it is its `format_finite`; at the patterns of every exponent each entry is held against the crate's own. A row is
+held against the crate's `format`, called once for each of its patterns, with one space between two texts; after each of its calls
+every byte of the buffer and of the fences is looked at.
 [DIFFERENCES.md](DIFFERENCES.md) has what differs by intent.
 
 END
