@@ -1,7 +1,7 @@
 //! Times our calls beside the crate's, and beside other libraries' where they are installed.
 //!
 //! Usage: bench [--table FILE] [--plot FILE]
-//! Prints nanoseconds per call, and the ratio to the crate; the last line has our worst ratio. Writes the same as a table in
+//! Prints nanoseconds per number, and the ratio to the crate; the last line has our worst ratio. Writes the same as a table in
 //! Markdown and as a plot in SVG, where a file is named.
 
 #[path = "../archive.rs"]
@@ -19,11 +19,7 @@ use std::process::exit;
 use std::time::Instant;
 
 use printers::{Buffers, Printer, PRINTERS};
-use workloads::{workloads, Numbers, Workload, COUNT};
-
-/// A printer prints so many numbers, then the next printer prints the same ones. A turn takes under a millisecond, so that most
-/// turns meet nothing else that the machine does.
-const TURN: usize = 4_000;
+use workloads::{workloads, Numbers, Workload, TURNS};
 
 /// So often all numbers of a workload are gone through.
 const ROUNDS: usize = 80;
@@ -32,7 +28,7 @@ const ROUNDS: usize = 80;
 const CRATE: usize = 0;
 const OURS: usize = 1;
 
-/// What was measured of a workload: nanoseconds per call, for each printer.
+/// What was measured of a workload: nanoseconds per number, for each printer.
 pub struct Measured {
     pub name: &'static str,
     pub nanoseconds: Vec<f64>,
@@ -44,17 +40,18 @@ impl Measured {
     }
 }
 
-/// Nanoseconds per call of one printer in one turn.
+/// Nanoseconds per number of one printer in one turn.
 fn time(printer: &Printer, numbers: &Numbers, turn: Range<usize>, buffers: &mut Buffers) -> f64 {
-    let calls = turn.len();
+    let count = turn.len();
     let began = Instant::now();
     let bytes = match numbers {
         Numbers::F64(numbers) => (printer.print64)(black_box(&numbers[turn]), buffers),
         Numbers::F32(numbers) => (printer.print32)(black_box(&numbers[turn]), buffers),
+        Numbers::Rows(numbers) => (printer.print_row)(black_box(&numbers[turn]), buffers),
     };
     let nanoseconds = began.elapsed().as_nanos() as f64;
-    assert!(bytes >= 3 * calls, "{} wrote fewer bytes than there can be", printer.name);
-    nanoseconds / calls as f64
+    assert!(bytes >= 3 * count, "{} wrote fewer bytes than there can be", printer.name);
+    nanoseconds / count as f64
 }
 
 fn median(mut times: Vec<f64>) -> f64 {
@@ -62,15 +59,17 @@ fn median(mut times: Vec<f64>) -> f64 {
     times[times.len() / 2]
 }
 
-/// Times the printers in turn, another one first in each round, and takes the median of each one's turns.
+/// Times the printers in turn, each with the same numbers before the next ones come and another one first in each round, and takes
+/// the median of each one's turns.
 fn measure(workload: &Workload) -> Measured {
     let mut buffers = Buffers::new();
+    let turn = workload.numbers.turn();
     let mut times = vec![Vec::new(); PRINTERS.len()];
     for round in 0..ROUNDS {
-        for from in (0..COUNT).step_by(TURN) {
+        for from in (0..TURNS).map(|n| n * turn) {
             for next in 0..PRINTERS.len() {
                 let printer = (round + next) % PRINTERS.len();
-                times[printer].push(time(&PRINTERS[printer], &workload.numbers, from..from + TURN, &mut buffers));
+                times[printer].push(time(&PRINTERS[printer], &workload.numbers, from..from + turn, &mut buffers));
             }
         }
     }
@@ -140,7 +139,7 @@ fn main() {
         eprintln!("bench: workload {} of {}: {}", at + 1, workloads.len(), workload.name);
         all.push(measure(workload));
     }
-    println!("nanoseconds per call, median of {} turns; in brackets the ratio to the crate", COUNT / TURN * ROUNDS);
+    println!("nanoseconds per number, median of {} turns; in brackets the ratio to the crate", TURNS * ROUNDS);
     print_table(&all);
     if let Some(file) = table {
         write(&file, markdown(&all));
@@ -148,6 +147,6 @@ fn main() {
     if let Some(file) = plot {
         write(&file, plot::svg(&all));
     }
-    let worst = all.iter().max_by(|a, b| a.ratio(OURS).total_cmp(&b.ratio(OURS))).expect("five workloads");
+    let worst = all.iter().max_by(|a, b| a.ratio(OURS).total_cmp(&b.ratio(OURS))).expect("there are workloads");
     println!("worst ratio to the crate: {:.2} ({})", worst.ratio(OURS), worst.name);
 }

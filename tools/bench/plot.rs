@@ -26,9 +26,9 @@ pub fn svg(all: &[Measured]) -> String {
     let mut svg = format!(
         "<svg xmlns=\"http://www.w3.org/2000/svg\" viewBox=\"0 0 {WIDTH} {height}\" width=\"{WIDTH}\" height=\"{height}\" \
          font-family=\"sans-serif\" font-size=\"12\" fill=\"#222\">\n\
-         <title>Nanoseconds per call of each printer at five workloads</title>\n\
+         <title>Nanoseconds per number of each printer at each workload</title>\n\
          <rect width=\"{WIDTH}\" height=\"{height}\" fill=\"white\"/>\n\
-         <text x=\"12\" y=\"26\" font-size=\"15\">Nanoseconds per call, and the ratio to the crate; shorter is better</text>\n"
+         <text x=\"12\" y=\"26\" font-size=\"15\">Nanoseconds per number, and the ratio to the crate; shorter is better</text>\n"
     );
     let mut y = TOP;
     for measured in all {
