@@ -38,8 +38,8 @@ impl<Bits> Entry<Bits> {
         // SAFETY: the call. The declarations above are those of include/dtoa.h, and `Bits` is the function's own parameter. It
         // asks for `len` bytes at `buf` that it may read and write while it runs: `bytes` is lent to it alone, has `ROOM` bytes,
         // and they are initialised. It keeps no pointer, and does not unwind: it is proved to end, without a panic.
-        // The text. It is proved that a call answering number 0 has put 3 to 25 bytes of text at the start of the buffer, of
-        // `0` to `9`, `.`, `-` and `e`, or one of `NaN`, `inf` and `-inf`: so the range lies in `bytes`, and is ASCII.
+        // The text. It is proved that a call answering number 0 has put `length` bytes of text at the start of the buffer, 3 to
+        // 25 of them, each a visible character of ASCII: so the range lies in `bytes`, and is UTF-8.
         unsafe {
             let printed = (self.0)(bits, bytes.as_mut_ptr(), bytes.len());
             if printed.number != 0 {
@@ -58,8 +58,9 @@ pub fn print_row<'a>(numbers: &[f32], out: &'a mut [u8]) -> Result<&'a str, RowE
     // asks for `len` bytes at `out` that it may read and write: `out` is lent to it alone, so shares none with `numbers`, and its
     // bytes are initialised. No slice's pointer is null, not even an empty one's. It keeps no pointer, and does not unwind: it
     // is proved to end, without a panic.
-    // The text. It is proved that a call answering number 0 has put `length` bytes of text at the start of `out`, each of them a
-    // space or one of a number's text, as above: so the range lies in `out`, and is ASCII.
+    // The text. It is proved that a call answering number 0 has put `length` bytes of text at the start of `out`, at most 26 for
+    // each number, for which it found room, and each a visible character of ASCII or a space: so the range lies in `out`, and is
+    // UTF-8.
     unsafe {
         let printed = dtoa_format_row32(numbers.as_ptr().cast(), numbers.len(), out.as_mut_ptr(), out.len());
         match printed.number {

@@ -1,5 +1,5 @@
 -- A row cut at its spaces gives its patterns' texts; so each finite one reads back, and two rows with the same bytes are one. Assumes nothing.
-use mathlib.Core.Bool.{false, not}
+use mathlib.Core.Bool.{Bool, true, false, not, _||_}
 use mathlib.Core.List.{List, [], _∷_, _++_, map, append-nil}
 use mathlib.Core.Path.{_≡_, refl, sym, ap, ap₂, _∙_}
 use Prim.Native.Nat.{ℕ, zero, suc, _+_, _*_, _^_, _≤_, _<_}
@@ -7,10 +7,10 @@ use native.Mathlib.Nat.{not-suc-le-zero, le-of-suc-le-suc}
 use native.Mathlib.Numerals.{add-one}
 use native.Mathlib.Omega.{arith}
 use borrow.Author.Tests.{ne-eqb}
-use lib.Dec.{T, eqb, ltb, nltb→le}
+use lib.Dec.{T, eqb, ltb, ltb→lt, nltb→le}
 use lib.ListN.{length, getD, drop, length-append, drop-of-length-le}
 use lib.Seq.{drop-cons}
-use Rattle.laws.proofs.Branches.{either}
+use Rattle.laws.proofs.Branches.{either, and-left, and-right}
 use Rattle.rules.specs.Bytes.{space}
 use Rattle.rules.specs.Width.{Width}
 use Rattle.rules.specs.Pattern.{special}
@@ -21,24 +21,25 @@ use Rattle.theorems.proofs.Printable.{Printable}
 use Rattle.theorems.proofs.Results.{left-length}
 use Rattle.theorems.proofs.RoundTrip.{restored, distinct}
 use Rattle.theorems.proofs.TextLength.{text-length}
-use Rattle.theorems.proofs.Visible.{Visible, text-visible}
+use Rattle.theorems.proofs.Visible.{each, both, loosely, visible, text-visible}
 
 -- ---- cutting
 
-no-space : (b : ℕ) → space < b → eqb b space ≡ false
-no-space b h = ne-eqb b space (λ e. omega arith)
+no-space : (b : ℕ) → T (visible b) → eqb b space ≡ false
+unfolding visible
+no-space b h = ne-eqb b space (λ e. omega (arith, ltb→lt space b (and-left (ltb space b) _ h)))
 
 -- A text without a space is one piece.
-one-piece : (t : List ℕ) → Visible t → pieces t ≡ t ∷ []
-unfolding Visible pieces onto
+one-piece : (t : List ℕ) → T (each visible t) → pieces t ≡ t ∷ []
+unfolding each pieces onto
 one-piece [] h = refl
-one-piece (b ∷ t) h = rw (no-space b (h .0), pieces, one-piece t (h .1))
+one-piece (b ∷ t) h = rw (no-space b (and-left (visible b) _ h), pieces, one-piece t (and-right (visible b) _ h))
 
 -- Before a space it is the first piece.
-first-piece : (t rest : List ℕ) → Visible t → pieces (t ++ (space ∷ rest)) ≡ t ∷ pieces rest
-unfolding Visible pieces onto
+first-piece : (t rest : List ℕ) → T (each visible t) → pieces (t ++ (space ∷ rest)) ≡ t ∷ pieces rest
+unfolding each pieces onto
 first-piece [] rest h = refl
-first-piece (b ∷ t) rest h = rw (no-space b (h .0), pieces, first-piece t rest (h .1))
+first-piece (b ∷ t) rest h = rw (no-space b (and-left (visible b) _ h), pieces, first-piece t rest (and-right (visible b) _ h))
 
 some-pieces : (t : List ℕ) → 0 < length t → cut t ≡ pieces t
 unfolding cut
@@ -56,6 +57,18 @@ unfoldable pub FinitePatterns : Width → List ℕ → Type 0
 FinitePatterns w [] = Unit
 FinitePatterns w (v ∷ vs) = (v < 2 ^ w .bits) × T (not (special w v)) × FinitePatterns w vs
 
+-- The bytes that a row may have.
+unfoldable pub visibleOrSpace : ℕ → Bool
+visibleOrSpace b = visible b || eqb b space
+
+visible-too : (b : ℕ) → T (visible b) → T (visibleOrSpace b)
+unfolding visibleOrSpace
+visible-too b h = or-left (visible b) (eqb b space) h
+  where
+    or-left : (x y : Bool) → T x → T (x || y)
+    or-left true y t = tt
+    or-left false y t = absurd t
+
 module _ (w : Width) where
   -- The pieces of a row that has a pattern.
   row-pieces : (v : ℕ) (vs : List ℕ) → pieces (row w (v ∷ vs)) ≡ map (text w) (v ∷ vs)
@@ -64,6 +77,14 @@ module _ (w : Width) where
   row-pieces v (u ∷ vs) =
       first-piece (text w v) (spaced (text w u ∷ map (text w) vs)) (text-visible w v)
       ∙ ap (λ (ts : List (List ℕ)). text w v ∷ ts) (row-pieces u vs)
+
+  -- A row has visible characters of ASCII and spaces, and no other bytes.
+  pub row-visible : (vs : List ℕ) → T (each visibleOrSpace (row w vs))
+  unfolding each visible visibleOrSpace row spaced
+  row-visible [] = tt
+  row-visible (v ∷ []) = loosely visible visibleOrSpace visible-too (text w v) (text-visible w v)
+  row-visible (v ∷ u ∷ vs) =
+      both visibleOrSpace (text w v) _ (loosely visible visibleOrSpace visible-too (text w v) (text-visible w v)) (row-visible (u ∷ vs))
 
   -- ---- what a row begins with
 
