@@ -1,4 +1,4 @@
--- What each of the four calls answers, and what it leaves in the lent buffer. Assumes nothing.
+-- What each of the four calls for one pattern answers, and what it leaves in the lent buffer. Assumes nothing.
 use Prim.Native.Nat.{ℕ}
 use mathlib.Core.Bool.{Bool, true, false}
 use mathlib.Core.List.{List, _++_}
