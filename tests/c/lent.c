@@ -1,3 +1,4 @@
+/* The buffer that the tests lend, and the look at it after a call. */
 #include "lent.h"
 
 #include <stdio.h>

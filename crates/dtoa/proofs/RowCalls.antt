@@ -3,7 +3,7 @@
 use mathlib.Core.Bool.{not}
 use mathlib.Core.List.{List, [], _∷_, map}
 use mathlib.Core.Path.{_≡_, refl, sym, ap, ap₂, _∙_}
-use Prim.Native.Nat.{ℕ, _*_, _^_, _≤_, _<_}
+use Prim.Native.Nat.{ℕ, _-_, _*_, _^_, _≤_, _<_}
 use native.Mathlib.Omega.{arith}
 use lib.Dec.{T}
 use lib.ListN.{length, getD, take, drop}
@@ -49,10 +49,11 @@ module _ (w : Width) (vs before last : List ℕ) (n : ℕ) (m : MeetsRow w vs be
   row-bytes-behind = rest-kept (right w vs before m)
 
   module _ {q : ℕ} (p : Printable w q) where
-    -- The length bound, which a row of 4,096 patterns has too.
-    pub row-length-bound : n ≤ rowRoom * length vs
+    -- The length bound, by the patterns of the row ..
+    pub row-length-bound : n ≤ rowRoom * length vs - 1
     row-length-bound = omega (arith, put-length (right w vs before m), row-length w q p vs)
 
+    -- .. and by the most that a row may have.
     pub row-length-most : n ≤ rowRoom * rowLimit
     row-length-most = omega (arith, row-length-bound, few-patterns (length vs) (length before) (is-printed (right w vs before m)))
 

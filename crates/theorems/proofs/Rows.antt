@@ -2,7 +2,7 @@
 use mathlib.Core.Bool.{Bool, true, false, not, _||_}
 use mathlib.Core.List.{List, [], _∷_, _++_, map, append-nil}
 use mathlib.Core.Path.{_≡_, refl, sym, ap, ap₂, _∙_}
-use Prim.Native.Nat.{ℕ, zero, suc, _+_, _*_, _^_, _≤_, _<_}
+use Prim.Native.Nat.{ℕ, zero, suc, _+_, _-_, _*_, _^_, _≤_, _<_}
 use native.Mathlib.Nat.{not-suc-le-zero, le-of-suc-le-suc}
 use native.Mathlib.Numerals.{add-one}
 use native.Mathlib.Omega.{arith}
@@ -41,6 +41,7 @@ unfolding each pieces onto
 first-piece [] rest h = refl
 first-piece (b ∷ t) rest h = rw (no-space b (and-left (visible b) _ h), pieces, first-piece t rest (and-right (visible b) _ h))
 
+-- A row that has a byte is cut into its pieces.
 some-pieces : (t : List ℕ) → 0 < length t → cut t ≡ pieces t
 unfolding cut
 some-pieces [] h = absurd (omega arith)
@@ -117,13 +118,14 @@ pub few-patterns : (count room : ℕ) → rowNumber count room ≡ 0 → count �
 few-patterns count room e = printed-row count room e .0
 
 module _ (w : Width) (q : ℕ) (p : Printable w q) where
-  -- How long a row is.
-  pub row-length : (vs : List ℕ) → length (row w vs) ≤ rowRoom * length vs
+  -- How long a row is: the space behind the last text is not put.
+  pub row-length : (vs : List ℕ) → length (row w vs) ≤ rowRoom * length vs - 1
   unfolding row spaced
   row-length [] = omega arith
   row-length (v ∷ []) = omega (arith, text-length w q p v .most)
   row-length (v ∷ u ∷ vs) = simp length-append (omega (arith, text-length w q p v .most, row-length (u ∷ vs)))
 
+  -- A row that has a pattern has a byte.
   row-some : (v : ℕ) (vs : List ℕ) → 0 < length (row w (v ∷ vs))
   unfolding row spaced
   row-some v [] = omega (arith, text-length w q p v .least)
