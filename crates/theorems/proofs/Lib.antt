@@ -32,3 +32,4 @@ pub mod Ieee
 pub mod Visible
 pub mod Rows
 pub mod Promises
+pub mod CutUnreached
