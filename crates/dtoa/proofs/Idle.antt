@@ -14,7 +14,7 @@ use Rattle.rules.specs.Power.{leastTen, jRaised, j, k, index, P}
 use Rattle.rules.specs.Product.{product}
 use Rattle.rules.specs.Scaled.{scaled, D}
 use Rattle.rules.specs.Digits.{above, under, placesUnder, places, c, first, closer, falls, decimal}
-use Rattle.rules.specs.Layout.{zeros, decimals, exponent, scientific, byRule, layout}
+use Rattle.rules.specs.Layout.{zeros, exponent, scientific, byRule, layout}
 use Rattle.rules.specs.Text.{shown, signed, text}
 use Rattle.rules.specs.Answer.{every, finiteOnly, refuses, number, Answer, answering, leaving, answer, after}
 use Rattle.dtoa.specs.Meets.{Meets}
@@ -29,7 +29,7 @@ abbrev pub e64 : ℕ
 e64 = 0x4005bf0995aaf790
 
 e64-text : text w64 e64 ≡ bytes "2.71828"
-unfolding bytes countUpTo count numeral plain raised significands64 exponents64 w64 off negative biased significand allOnes special magnitude shifted upper below lower value leastTen jRaised j k index P product scaled D above under placesUnder places c first closer falls decimal zeros decimals exponent scientific byRule layout shown signed text
+unfolding bytes countUpTo count numeral plain raised significands64 exponents64 w64 off negative biased significand allOnes special magnitude shifted upper below lower value leastTen jRaised j k index P product scaled D above under placesUnder places c first closer falls decimal zeros exponent scientific byRule layout shown signed text
 e64-text = refl
 
 -- What a call has to answer there.
@@ -71,7 +71,7 @@ abbrev pub tenth32 : ℕ
 tenth32 = 0x3dcccccd
 
 tenth32-text : text w32 tenth32 ≡ bytes "0.1"
-unfolding bytes countUpTo count numeral plain raised significands32 exponents32 w32 off negative biased significand allOnes special magnitude shifted upper below lower value leastTen jRaised j k index P product scaled D above under placesUnder places c first closer falls decimal zeros decimals exponent scientific byRule layout shown signed text
+unfolding bytes countUpTo count numeral plain raised significands32 exponents32 w32 off negative biased significand allOnes special magnitude shifted upper below lower value leastTen jRaised j k index P product scaled D above under placesUnder places c first closer falls decimal zeros exponent scientific byRule layout shown signed text
 tenth32-text = refl
 
 tenth32-answer : answer every w32 tenth32 (length lent) ≡ record { number = 0; len = 3 }

@@ -14,7 +14,7 @@ use Rattle.rules.specs.Power.{leastTen, jRaised, j, k, index, P}
 use Rattle.rules.specs.Product.{product}
 use Rattle.rules.specs.Scaled.{scaled, D}
 use Rattle.rules.specs.Digits.{above, under, placesUnder, places, c, first, closer, falls, decimal}
-use Rattle.rules.specs.Layout.{zeros, decimals, exponent, scientific, byRule, layout}
+use Rattle.rules.specs.Layout.{zeros, exponent, scientific, byRule, layout}
 use Rattle.rules.specs.Text.{shown, signed, text}
 use Rattle.rules.specs.Answer.{Answer, answering, leaving}
 use Rattle.rules.specs.Row.{spaced, row, rowNumber, rowAnswer, rowAfter}
@@ -29,7 +29,7 @@ abbrev pub lent : List ℕ
 lent = replicate 52 42
 
 pair-row : row w32 pair ≡ bytes "1.0 -0.5"
-unfolding spaced row bytes countUpTo count numeral plain raised significands32 exponents32 w32 off negative biased significand allOnes special magnitude shifted upper below lower value leastTen jRaised j k index P product scaled D above under placesUnder places c first closer falls decimal zeros decimals exponent scientific byRule layout shown signed text
+unfolding spaced row bytes countUpTo count numeral plain raised significands32 exponents32 w32 off negative biased significand allOnes special magnitude shifted upper below lower value leastTen jRaised j k index P product scaled D above under placesUnder places c first closer falls decimal zeros exponent scientific byRule layout shown signed text
 pair-row = refl
 
 -- What a call has to answer and to leave there.

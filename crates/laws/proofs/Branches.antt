@@ -17,6 +17,12 @@ pub taken {ℓ} : {A : Type ℓ} {x z : A} (y : A) (t : Bool) → T t → x ≡ 
 taken y true h e = e
 taken y false h e = absurd h
 
+-- Two branches on one test are equal where their sides are.
+pub alike {ℓ} : {A : Type ℓ} {x y u z : A} (t : Bool) → (T t → x ≡ u) → (T (not t) → y ≡ z) →
+    _≡_ {A = A} (elim t as (λ _. A) [ true ↦ x | false ↦ y ]) (elim t as (λ _. A) [ true ↦ u | false ↦ z ])
+alike true yes-side no-side = yes-side tt
+alike false yes-side no-side = no-side tt
+
 -- The outcome of a test, as an equation.
 pub is-true : (t : Bool) → T t → t ≡ true
 is-true true h = refl

@@ -4,7 +4,6 @@ use mathlib.Core.Bool.{Bool, true, false, not, cond}
 use mathlib.Core.Path.{_≡_, sym, ap, _∙_}
 use Prim.Native.Nat.{ℕ, zero, suc, _+_, _-_, _*_, _/_, _≤_, _<_}
 use native.Mathlib.Nat.{add-zero, add-mul, add-mul-div-right, div-eq-of-lt-le, div-lt-iff-lt-mul, div-mul-le-self, lt-div-mul-add}
-use native.Mathlib.Nat.{le-refl}
 use native.Mathlib.Omega.{arith}
 use lib.Dec.{T, ltb, ltb→lt, nltb→le}
 use lib.IntN.{ℤ, pos, negsuc, negℤ, subℕ, _+ℤ_, _-ℤ_, _*ℤ_, natAbs}
@@ -107,6 +106,6 @@ floored a b n some =
 pub size-bounded : (h a b : ℕ) → a < b + h → b < a + h → natAbs (subℕ a b) < h
 size-bounded h a b l r = cases (λ z. natAbs z < h) a b (λ m. omega arith) (λ m. omega arith)
 
-pub mag-size : (z : ℤ) → mag z ≤ natAbs z
-mag-size (pos n) = le-refl n
-mag-size (negsuc n) = omega arith
+-- How far below zero a difference from zero is.
+pub size-minus : (n : ℕ) → natAbs (subℕ 0 n) ≡ n
+size-minus n = cases (λ z. natAbs z ≡ n) 0 n (λ l. omega arith) (λ l. omega arith)

@@ -1,4 +1,3 @@
 pub mod Signs
-pub mod Cutting
 pub mod Texts
 pub mod Ruled

@@ -10,7 +10,7 @@ use lib.ListN.{length, take, drop}
 use borrow.Author.Tests.{le-leb, lt-leb, lt-ltb, le-ltb}
 use Rattle.laws.proofs.Differences as difference
 use Rattle.rules.specs.Bytes.{bytes, byte0, point}
-use Rattle.rules.specs.Layout.{zeros, decimals, scientific, byRule, layout}
+use Rattle.rules.specs.Layout.{zeros, scientific, byRule, layout}
 
 module _ (ds : List ℕ) {len : ℕ} (long : length ds ≡ len) (some : 0 < len) where
   -- Rule 1: n zeros stand behind the digits.
@@ -35,28 +35,21 @@ module _ (ds : List ℕ) {len : ℕ} (long : length ds ≡ len) (some : 0 < len)
       ap (layout ds) (sym (difference.is-negsuc (r - 1) 0 r (omega arith))) ∙ rw (is, long, ← kk-is) rule
 
   -- Rule 2: p digits stand before the point, and r behind it.
-  pub inner : (p r : ℕ) → 0 < r → p + r ≡ len → 0 < p → p ≤ 21 → layout ds (subℕ 0 r) ≡ take p ds ++ (point ∷ decimals (drop p ds))
+  pub inner : (p r : ℕ) → 0 < r → p + r ≡ len → 0 < p → p ≤ 21 → layout ds (subℕ 0 r) ≡ take p ds ++ (point ∷ drop p ds)
   unfolding byRule
   inner p r below sum before fits =
       from-below r below (difference.is-pos p len r sum) (rw (lt-ltb 0 p before, byRule, le-leb p 21 fits))
 
   -- Rule 3: z zeros stand between the point and the digits.
-  pub small : (z r : ℕ) → z + len ≡ r → z < 6 → layout ds (subℕ 0 r) ≡ byte0 ∷ point ∷ decimals (zeros z ++ ds)
+  pub small : (z r : ℕ) → z + len ≡ r → z < 6 → layout ds (subℕ 0 r) ≡ byte0 ∷ point ∷ (zeros z ++ ds)
   unfolding byRule zeros
   small zero r sum near = from-below r (omega arith) (difference.is-pos 0 len r (omega arith)) refl
   small (suc y) r sum near = from-below r (omega arith) (difference.is-negsuc y len r sum) (rw (lt-ltb y 5 (omega arith), byRule))
 
-  -- Rule 4.
-  pub tiny : (z r : ℕ) → z + len ≡ r → 324 < z → layout ds (subℕ 0 r) ≡ bytes "0.0"
-  unfolding byRule
-  tiny zero r sum far = absurd (omega arith)
-  tiny (suc y) r sum far =
-      from-below r (omega arith) (difference.is-negsuc y len r sum) (rw (le-ltb y 5 (omega arith), byRule, lt-ltb 323 y (omega arith)))
-
   -- Rules 5 and 6, with an exponent below zero.
-  pub minute : (z r : ℕ) → z + len ≡ r → 6 ≤ z → z ≤ 324 → layout ds (subℕ 0 r) ≡ scientific ds (negsuc z)
+  pub minute : (z r : ℕ) → z + len ≡ r → 6 ≤ z → layout ds (subℕ 0 r) ≡ scientific ds (negsuc z)
   unfolding byRule
-  minute zero r sum far near = absurd (omega arith)
-  minute (suc y) r sum far near =
+  minute zero r sum far = absurd (omega arith)
+  minute (suc y) r sum far =
       from-below r (omega arith) (difference.is-negsuc y len r sum)
-      (rw (le-ltb y 5 (omega arith), byRule, le-ltb 323 y (omega arith), add-zero))
+      (rw (le-ltb y 5 (omega arith), byRule, add-zero))

@@ -4,16 +4,12 @@ ghost use mathlib.Core.List.{_∷_, _++_};
 ghost use Prim.Native.Nat.{_+_, _≤_, _<_};
 ghost use lib.IntN.{natAbs, pos, subℕ};
 ghost use lib.ListN.{length, take, drop};
-ghost use lib.Seq.{slice};
 ghost use Rattle.laws.specs.Puts.{Puts};
 ghost use Rattle.rules.specs.Bytes.{bytes, byte0, point, letterE};
 ghost use Rattle.rules.specs.Numbers.{plain};
 ghost use Rattle.rules.specs.Layout as rules;
-ghost use Rattle.rules.specs.Layout.{exponent, decimals, layout};
+ghost use Rattle.rules.specs.Layout.{exponent, layout};
 ghost use Rattle.layout.specs.Layout.{Laying};
-
-// The most decimals that are kept.
-const MAX_DECIMAL_PLACES: usize = 324;
 
 // Writes a number of up to three digits, and answers how many they are.
 fn write_small(n: u32, buf: &mut [u8]) -> usize
@@ -56,27 +52,6 @@ pub fn write_exponent(k: i32, buf: &mut [u8]) -> usize
         return at + write_small(n, &mut buf[at..]);
     }
     write_small(n, buf)
-}
-
-// Where the decimals between two places end, after the cut: of more than 324 the first 324 are kept, and zeros at
-// their end go, but one digit stays.
-fn cut(buf: &[u8], first: usize, end: usize) -> usize
-    requires { ⌜ first ≤ end ⌝ }
-    requires { ⌜ end ≤ length (now buf) ⌝ }
-    ensures { λ r. ⌜ r ≡ first + length (decimals (slice first end (now (buf .entry)))) ⌝ }
-{
-    if end - first <= MAX_DECIMAL_PLACES {
-        return end;
-    }
-    let mut kept = MAX_DECIMAL_PLACES;
-    while 1 < kept {
-        let last = kept - 1;
-        if buf[first + last] != b'0' {
-            return first + kept;
-        }
-        kept = last;
-    }
-    first + kept
 }
 
 // Puts `e` and an exponent at a place, and answers the place behind them.
@@ -126,24 +101,24 @@ fn whole(buf: &mut [u8], len: usize, zeros: usize) -> usize
 fn inner(buf: &mut [u8], len: usize, kk: usize) -> usize
     requires { ⌜ Laying len (length (now buf)) ⌝ }
     requires { ⌜ kk < len ⌝ }
-    ensures { λ r. ⌜ Puts (take kk (take len (now (buf .entry))) ++ (point ∷ decimals (drop kk (take len (now (buf .entry)))))) (now (buf .entry)) 0 (now (buf .exit)) r ⌝ }
+    ensures { λ r. ⌜ Puts (take kk (take len (now (buf .entry))) ++ (point ∷ drop kk (take len (now (buf .entry))))) (now (buf .entry)) 0 (now (buf .exit)) r ⌝ }
 {
     let end = put::moved(buf, kk, len, 1);
-    let first = put::byte(buf, kk, b'.');
-    cut(buf, first, end)
+    put::byte(buf, kk, b'.');
+    end
 }
 
 // Lays digits out with zeros between the point and them: 1234e-6 as 0.001234.
 fn small(buf: &mut [u8], len: usize, zeros: usize) -> usize
     requires { ⌜ Laying len (length (now buf)) ⌝ }
     requires { ⌜ zeros < 6 ⌝ }
-    ensures { λ r. ⌜ Puts (byte0 ∷ point ∷ decimals (rules.zeros zeros ++ take len (now (buf .entry)))) (now (buf .entry)) 0 (now (buf .exit)) r ⌝ }
+    ensures { λ r. ⌜ Puts (byte0 ∷ point ∷ (rules.zeros zeros ++ take len (now (buf .entry)))) (now (buf .entry)) 0 (now (buf .exit)) r ⌝ }
 {
     let end = put::moved(buf, 0, len, zeros + 2);
     let next = put::byte(buf, 0, b'0');
     let first = put::byte(buf, next, b'.');
     put::zeros(buf, first, zeros);
-    cut(buf, first, end)
+    end
 }
 
 // Lays digits out with the exponent k.
@@ -162,6 +137,7 @@ fn upward(buf: &mut [u8], len: usize, k: usize) -> usize
 fn downward(buf: &mut [u8], len: usize, k: usize) -> usize
     requires { ⌜ Laying len (length (now buf)) ⌝ }
     requires { ⌜ 0 < k ⌝ }
+    requires { ⌜ k < 900 ⌝ }
     ensures { λ r. ⌜ Puts (layout (take len (now (buf .entry))) (subℕ 0 k)) (now (buf .entry)) 0 (now (buf .exit)) r ⌝ }
 {
     if k < len {
@@ -170,10 +146,6 @@ fn downward(buf: &mut [u8], len: usize, k: usize) -> usize
     let zeros = k - len;
     if zeros < 6 {
         return small(buf, len, zeros);
-    }
-    if MAX_DECIMAL_PLACES < zeros {
-        let next = put::byte(buf, 0, b'0');
-        return put_point_zero(buf, next);
     }
     scientific(buf, len, 0 - (zeros + 1) as i32)
 }

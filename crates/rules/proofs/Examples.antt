@@ -18,7 +18,7 @@ use Rattle.rules.specs.Power.{leastTen, jRaised, j, k, index, P}
 use Rattle.rules.specs.Product.{product}
 use Rattle.rules.specs.Scaled.{scaled, D}
 use Rattle.rules.specs.Digits.{above, under, placesUnder, places, c, first, closer, falls, decimal}
-use Rattle.rules.specs.Layout.{zeros, joined, trimmed, oneKept, decimals, exponent, scientific, byRule, layout}
+use Rattle.rules.specs.Layout.{zeros, exponent, scientific, byRule, layout}
 use Rattle.rules.specs.Text.{shown, signed, text}
 use Rattle.rules.specs.Reading as Reading
 use Rattle.rules.specs.Reading.{isDigit, extended, powered, exponentMore, exponentFirst, exponentSign, decimalsMore, decimalsFirst, wholeMore, unsigned, Exact, refused, notANumber, infinite, same, withFraction, magnitudeOf, exact, infinity, top, low, unbounded, nearest, withSign}
@@ -222,7 +222,7 @@ list =
     ∷ []
 
 pub examples : T (all list)
-unfolding all holds equal buffer joins is-pattern is-refused list bytes countUpTo count numeral plain raised significands32 exponents32 significands64 exponents64 w32 w64 off negative biased significand allOnes special magnitude shifted upper below lower value leastTen jRaised j k index P product scaled D above under placesUnder places c first closer falls decimal zeros joined trimmed oneKept decimals exponent scientific byRule layout shown signed text isDigit extended powered exponentMore exponentFirst exponentSign decimalsMore decimalsFirst wholeMore unsigned same withFraction magnitudeOf exact infinity top low size unbounded nearest withSign refuses number answering leaving answer after
+unfolding all holds equal buffer joins is-pattern is-refused list bytes countUpTo count numeral plain raised significands32 exponents32 significands64 exponents64 w32 w64 off negative biased significand allOnes special magnitude shifted upper below lower value leastTen jRaised j k index P product scaled D above under placesUnder places c first closer falls decimal zeros exponent scientific byRule layout shown signed text isDigit extended powered exponentMore exponentFirst exponentSign decimalsMore decimalsFirst wholeMore unsigned same withFraction magnitudeOf exact infinity top low size unbounded nearest withSign refuses number answering leaving answer after
 examples = tt
 
 pub rows : List Example
@@ -248,5 +248,5 @@ rows =
     ∷ []
 
 pub row-examples : T (all rows)
-unfolding all holds all-same buffer joins rows bytes countUpTo count numeral plain raised significands32 exponents32 w32 off negative biased significand allOnes special magnitude shifted upper below lower value leastTen jRaised j k index P product scaled D above under placesUnder places c first closer falls decimal zeros joined trimmed oneKept decimals exponent scientific byRule layout shown signed text same answering leaving spaced row rowNumber rowAnswer rowAfter onto pieces cut
+unfolding all holds all-same buffer joins rows bytes countUpTo count numeral plain raised significands32 exponents32 w32 off negative biased significand allOnes special magnitude shifted upper below lower value leastTen jRaised j k index P product scaled D above under placesUnder places c first closer falls decimal zeros exponent scientific byRule layout shown signed text same answering leaving spaced row rowNumber rowAnswer rowAfter onto pieces cut
 row-examples = tt

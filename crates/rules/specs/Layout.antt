@@ -1,8 +1,8 @@
 -- The layout of digits and an exponent as a text. Assumes nothing.
 use Prim.Native.Nat.{ℕ}
 use mathlib.Core.Bool.{true, false, _&&_}
-use mathlib.Core.List.{List, [], _∷_, _++_}
-use lib.Dec.{ltb, eqb}
+use mathlib.Core.List.{List, _∷_, _++_}
+use lib.Dec.{eqb}
 use lib.IntN.{ℤ, pos, negsuc, natAbs, _+ℤ_, _-ℤ_}
 use lib.ListN.{length, replicate, take, drop}
 use lib.Signed.{leZ, ltZ}
@@ -12,25 +12,6 @@ use Rattle.rules.specs.Numbers.{neg, plain}
 -- n zeros.
 unfoldable pub zeros : ℕ → List ℕ
 zeros n = replicate n byte0
-
--- A digit before what is left of the digits behind it; a zero with nothing left behind it goes.
-unfoldable pub joined : ℕ → List ℕ → List ℕ
-joined d [] = elim (eqb d byte0) [ true ↦ [] | false ↦ d ∷ [] ]
-joined d (x ∷ xs) = d ∷ x ∷ xs
-
--- Digits without the zeros at their end.
-unfoldable pub trimmed : List ℕ → List ℕ
-trimmed [] = []
-trimmed (d ∷ ds) = joined d (trimmed ds)
-
--- Digits without the zeros at their end, but the first stays.
-unfoldable pub oneKept : List ℕ → List ℕ
-oneKept [] = []
-oneKept (d ∷ ds) = d ∷ trimmed ds
-
--- The digits behind the point: of more than 324 the first 324 are kept, then zeros at the end are dropped, but one digit stays.
-unfoldable pub decimals : List ℕ → List ℕ
-decimals ds = elim (ltb 324 (length ds)) [ true ↦ oneKept (take 324 ds) | false ↦ ds ]
 
 -- The exponent: `-` if negative, no plus, no leading zeros.
 unfoldable pub exponent : ℤ → List ℕ
@@ -52,11 +33,11 @@ byRule ds k kk =
       | true ↦ ds ++ (zeros (natAbs k) ++ bytes ".0")
       | false ↦
           elim (ltZ (pos 0) kk && leZ kk (pos 21)) [
-            | true ↦ take (natAbs kk) ds ++ (point ∷ decimals (drop (natAbs kk) ds))
+            | true ↦ take (natAbs kk) ds ++ (point ∷ drop (natAbs kk) ds)
             | false ↦
                 elim (ltZ (neg 6) kk && leZ kk (pos 0)) [
-                  | true ↦ byte0 ∷ point ∷ decimals (zeros (natAbs kk) ++ ds)
-                  | false ↦ elim (ltZ kk (neg 324)) [ true ↦ bytes "0.0" | false ↦ scientific ds (kk -ℤ pos 1) ]
+                  | true ↦ byte0 ∷ point ∷ (zeros (natAbs kk) ++ ds)
+                  | false ↦ scientific ds (kk -ℤ pos 1)
                 ]
           ]
     ]

@@ -10,22 +10,20 @@ use lib.ListN.{length, take, drop}
 use Rattle.laws.proofs.Branches.{either, and-left, and-right, and-not-left, and-not-right}
 use Rattle.laws.proofs.Differences as difference
 use Rattle.rules.specs.Bytes.{bytes, byte0, point}
-use Rattle.rules.specs.Layout.{zeros, decimals, scientific, byRule, layout}
+use Rattle.rules.specs.Layout.{zeros, scientific, byRule, layout}
 
 -- The text t is the layout of the digits ds and the exponent k.
 pub data Laid (ds : List ℕ) (k : ℤ) (t : List ℕ) : Type 0 where
   -- rule 1: n zeros behind the digits
   whole : (n : ℕ) → k ≡ pos n → length ds + n ≤ 21 → t ≡ ds ++ (zeros n ++ bytes ".0") → Laid ds k t
   -- rule 2: r of the digits behind the point, and p before it
-  inner : (p r : ℕ) → k ≡ subℕ 0 r → 0 < r → p + r ≡ length ds → 0 < p → p ≤ 21 → t ≡ take p ds ++ (point ∷ decimals (drop p ds)) → Laid ds k t
+  inner : (p r : ℕ) → k ≡ subℕ 0 r → 0 < r → p + r ≡ length ds → 0 < p → p ≤ 21 → t ≡ take p ds ++ (point ∷ drop p ds) → Laid ds k t
   -- rule 3: z zeros between the point and the digits
-  small : (z : ℕ) → k ≡ subℕ 0 (z + length ds) → z < 6 → t ≡ byte0 ∷ point ∷ decimals (zeros z ++ ds) → Laid ds k t
-  -- rule 4
-  tiny : (z : ℕ) → k ≡ subℕ 0 (z + length ds) → 324 < z → t ≡ bytes "0.0" → Laid ds k t
+  small : (z : ℕ) → k ≡ subℕ 0 (z + length ds) → z < 6 → t ≡ byte0 ∷ point ∷ (zeros z ++ ds) → Laid ds k t
   -- rules 5 and 6, with an exponent from 21 on
   large : (n : ℕ) → k ≡ pos n → 21 < length ds + n → t ≡ scientific ds (pos (length ds + n - 1)) → Laid ds k t
   -- rules 5 and 6, with an exponent below -6
-  minute : (z : ℕ) → k ≡ subℕ 0 (z + length ds) → 6 ≤ z → z ≤ 324 → t ≡ scientific ds (negsuc z) → Laid ds k t
+  minute : (z : ℕ) → k ≡ subℕ 0 (z + length ds) → 6 ≤ z → t ≡ scientific ds (negsuc z) → Laid ds k t
 
 module _ (ds : List ℕ) (some : 0 < length ds) (short : length ds ≤ 21) where
   -- k is not below zero
@@ -62,10 +60,7 @@ module _ (ds : List ℕ) (some : 0 < length ds) (short : length ds ≤ 21) where
   downward y m e =
       let is : negsuc m ≡ subℕ 0 (suc y + length ds) = difference.is-negsuc m 0 (suc y + length ds) (omega arith) in
       either (Laid ds (negsuc m)) (ltb y 5 && true) (λ t. small (suc y) is (omega (arith, ltb→lt y 5 (and-left (ltb y 5) true t))) refl)
-      (λ t.
-      let far : 5 ≤ y = nltb→le y 5 (and-not-left (ltb y 5) true tt t) in
-      either (Laid ds (negsuc m)) (ltb 323 y) (λ u. tiny (suc y) is (omega (arith, ltb→lt 323 y u)) refl)
-      (λ u. minute (suc y) is (omega arith) (omega (arith, nltb→le 323 y u)) (ap (λ (n : ℕ). scientific ds (negsuc (suc n))) (omega arith))))
+      (λ t. minute (suc y) is (omega (arith, nltb→le y 5 (and-not-left (ltb y 5) true tt t))) (ap (λ (n : ℕ). scientific ds (negsuc (suc n))) (omega arith)))
 
 -- Every text that a layout gives is one of these.
 pub laid : (ds : List ℕ) (k : ℤ) → 0 < length ds → length ds ≤ 21 → Laid ds k (layout ds k)

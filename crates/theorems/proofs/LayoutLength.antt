@@ -1,18 +1,18 @@
 -- How many bytes a layout has: from 3 to 24, and more than it has digits. Assumes nothing.
-use mathlib.Core.List.{List, _++_}
+use mathlib.Core.List.{List}
 use mathlib.Core.Path.{_≡_, refl, ap, _∙_}
 use Prim.Native.Nat.{ℕ, suc, _+_, _-_, _^_, _≤_, _<_}
 use native.Mathlib.Omega.{arith}
 use lib.Dec.{eqb}
-use lib.IntN.{ℤ, pos, negsuc, subℕ}
-use lib.ListN.{length, drop, length-append, length-take, length-drop}
-use lib.Signed.{mag}
+use lib.IntN.{ℤ, pos, negsuc, natAbs}
+use lib.ListN.{length, length-append, length-take, length-drop}
 use Rattle.laws.proofs.Branches.{either}
+use Rattle.laws.proofs.Differences as difference
 use Rattle.rules.specs.Bytes.{bytes}
-use Rattle.rules.specs.Layout.{zeros, exponent, scientific, layout}
+use Rattle.rules.specs.Layout.{exponent, scientific, layout}
 use Rattle.theorems.proofs.Counting.{count-least, count-pos, length-plain}
-use Rattle.theorems.proofs.LaidOut.{Laid, whole, inner, small, tiny, large, minute, laid}
-use Rattle.theorems.proofs.LayoutReads.{uncut, length-zeros}
+use Rattle.theorems.proofs.LaidOut.{Laid, whole, inner, small, large, minute, laid}
+use Rattle.theorems.proofs.LayoutReads.{length-zeros}
 
 -- An exponent below 10^4 has up to 4 bytes, and below zero up to 3 digits and a sign.
 exponent-bytes : (x : ℕ) → x < 10 ^ 4 → (1 ≤ length (exponent (pos x))) × (length (exponent (pos x)) ≤ 4)
@@ -38,41 +38,34 @@ two : length (bytes ".0") ≡ 2
 unfolding bytes
 two = refl
 
-zero-length : length (bytes "0.0") ≡ 3
-unfolding bytes
-zero-length = refl
-
--- A text t that digits ds were laid out as, or the `0.0` of rule 4.
-pub record Spans (ds : List ℕ) (k : ℤ) (t : List ℕ) : Type 0 where
+-- A text t that digits ds were laid out as.
+pub record Spans (ds t : List ℕ) : Type 0 where
   pub least : 3 ≤ length t
   pub most : length t ≤ 24
-  -- but for rule 4 it is longer than the digits
-  pub covers : ((z : ℕ) → k ≡ subℕ 0 (z + length ds) → z ≤ 324) → length ds < length t
+  -- it is longer than the digits
+  pub covers : length ds < length t
 
 -- The layout of 1 to 17 digits.
-pub layout-length : (ds : List ℕ) (k : ℤ) → 0 < length ds → length ds ≤ 17 → mag k < 1000 → Spans ds k (layout ds k)
+pub layout-length : (ds : List ℕ) (k : ℤ) → 0 < length ds → length ds ≤ 17 → natAbs k < 1000 → Spans ds (layout ds k)
 layout-length ds k some short near = by-rule (laid ds k some (omega arith))
   where
-    spans : {t : List ℕ} (n : ℕ) → length t ≡ n → 3 ≤ n → n ≤ 24 → length ds < n → Spans ds k t
-    spans n is least most more = record { least = omega arith; most = omega arith; covers = λ far. omega arith }
+    spans : {t : List ℕ} (n : ℕ) → length t ≡ n → 3 ≤ n → n ≤ 24 → length ds < n → Spans ds t
+    spans n is least most more = record { least = omega arith; most = omega arith; covers = omega arith }
 
-    by-rule : {t : List ℕ} → Laid ds k t → Spans ds k t
+    by-rule : {t : List ℕ} → Laid ds k t → Spans ds t
     by-rule (whole n e fits is) =
         spans (length ds + (n + 2)) (ap length is ∙ simp (length-append, length-zeros, two) refl) (omega arith) (omega arith) (omega arith)
     by-rule (inner p r e behind sum before few is) =
-        spans (length ds + 1) (ap length is ∙ rw (uncut (drop p ds) (simp length-drop (omega arith))) (simp (length-append, length-take, length-drop) (omega arith)))
+        spans (length ds + 1) (ap length is ∙ simp (length-append, length-take, length-drop) (omega arith))
         (omega arith) (omega arith) (omega arith)
     by-rule (small z e few is) =
-        spans (2 + (z + length ds)) (ap length is ∙ rw (uncut (zeros z ++ ds) (simp (length-append, length-zeros) (omega arith))) (simp (length-append, length-zeros) (omega arith)))
+        spans (2 + (z + length ds)) (ap length is ∙ simp (length-append, length-zeros) (omega arith))
         (omega arith) (omega arith) (omega arith)
-    by-rule {t} (tiny z e far is) =
-        let three : length t ≡ 3 = ap length is ∙ zero-length in
-        record { least = omega arith; most = omega arith; covers = λ near. absurd (omega (arith, near z e)) }
     by-rule (large n e far is) =
-        let b = exponent-bytes (length ds + n - 1) (omega (arith, ap mag e)) in
+        let b = exponent-bytes (length ds + n - 1) (omega (arith, ap natAbs e)) in
         let s = scientific-bytes ds (pos (length ds + n - 1)) some in
         spans _ (ap length is) (omega arith) (omega arith) (omega arith)
-    by-rule (minute z e far few is) =
-        let b = minus-bytes z (omega arith) in
+    by-rule (minute z e far is) =
+        let b = minus-bytes z (omega (arith, ap natAbs e, difference.size-minus (z + length ds))) in
         let s = scientific-bytes ds (negsuc z) some in
         spans _ (ap length is) (omega arith) (omega arith) (omega arith)

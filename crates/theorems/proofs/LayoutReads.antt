@@ -4,19 +4,19 @@ use mathlib.Core.Path.{_≡_, refl, sym, ap, _∙_, subst}
 use Prim.Native.Nat.{ℕ, zero, suc, _+_, _-_, _*_, _/_, _%_, _^_, _≤_, _<_}
 use native.Mathlib.Nat.{div-add-mod', div-lt-iff-lt-mul, eq-of-mul-eq-mul-right, lt-of-lt-of-le, mod-eq-of-lt, mul-pos, pow-le-pow-right, pow-succ', zero-lt-suc}
 use native.Mathlib.Omega.{arith}
-use lib.Dec.{ltb, ltb→lt, eqb, eqb→eq, T-not}
+use lib.Dec.{eqb, eqb→eq, T-not}
 use lib.IntN.{ℤ, pos, negsuc, subℕ}
-use lib.ListN.{length, take, drop, length-append, length-drop, length-replicate}
+use lib.ListN.{length, take, drop, length-replicate}
 use lib.Pow.{pow-add}
 use Rattle.laws.proofs.Branches.{either}
 use Rattle.laws.proofs.Differences as difference
 use Rattle.laws.proofs.Powers.{ten-pos}
 use Rattle.rules.specs.Bytes.{bytes, byte0, point, letterE}
 use Rattle.rules.specs.Numbers.{numeral}
-use Rattle.rules.specs.Layout.{zeros, decimals, scientific, exponent, layout}
+use Rattle.rules.specs.Layout.{zeros, scientific, exponent, layout}
 use Rattle.rules.specs.Reading.{over, isDigit, extended, unsigned, wholeMore, decimalsMore, exponentSign}
 use Rattle.theorems.proofs.Counting.{length-numeral}
-use Rattle.theorems.proofs.LaidOut.{Laid, whole, inner, small, tiny, large, minute, laid}
+use Rattle.theorems.proofs.LaidOut.{Laid, whole, inner, small, large, minute, laid}
 use Rattle.theorems.proofs.Runs.{drop-numeral, take-numeral, zeros-before, unsigned-numeral, whole-zeros, point-numeral, whole-e, decimals-e, exponent-up, exponent-down}
 
 -- The text t says v * 10^(up - down): a fraction n / d that equals it.
@@ -127,16 +127,11 @@ says-moved {t} {v} {a} {b} up down e s =
           (omega (arith, ap (λ (x : ℕ). x * 10 ^ down) (s .equal), ap (λ (x : ℕ). v * s .d * x) p));
     }
 
--- A text that is no longer cut behind the point.
-pub uncut : (ds : List ℕ) → length ds ≤ 324 → decimals ds ≡ ds
-unfolding decimals
-uncut ds h = either (λ (t : List ℕ). t ≡ ds) (ltb 324 (length ds)) (λ t. absurd (omega (arith, ltb→lt 324 (length ds) t))) (λ t. refl)
-
 pub length-zeros : (n : ℕ) → length (zeros n) ≡ n
 unfolding zeros
 length-zeros n = length-replicate n byte0
 
--- The layout of at most 21 digits says their number times 10^k, for every k up to 9,000 that rule 4 does not take.
+-- The layout of at most 21 digits says their number times 10^k, for every k up to 9,000 with kk from -324 on.
 pub layout-says : (l v up down : ℕ) → v < 10 ^ suc l → suc l ≤ 21 → up ≤ down + 9000 → down ≤ up + suc l + 324 →
     Says (layout (numeral (suc l) v) (subℕ up down)) v up down
 layout-says l v up down h short most near = by-rule (laid ds (subℕ up down) (rw len (omega arith)) (rw len short))
@@ -159,12 +154,11 @@ layout-says l v up down h short most near = by-rule (laid ds (subℕ up down) (r
     by-rule (inner (suc p) zero e some sum more few is) = absurd (omega arith)
     by-rule (inner (suc p) (suc r) e some sum more few is) =
         let split : suc l ≡ suc p + suc r = omega (arith, len, sum) in
-        rw (is, uncut (drop (suc p) ds) (simp length-drop (omega (arith, len))), split)
+        rw (is, split)
         (says-moved up down (from-zero (suc r) e) (inner-says p r v (rw (← split) h)))
     by-rule (small z e few is) =
-        rw (is, uncut (zeros z ++ ds) (simp (length-append, length-zeros) (omega (arith, len))))
+        rw is
         (says-moved up down (rw (← len) (from-zero (z + length ds) e)) (small-says z l v h))
-    by-rule (tiny z e far is) = absurd (omega (arith, from-zero (z + length ds) e, len))
     by-rule (large n e far is) =
         let x : length ds + n - 1 ≡ l + n = omega (arith, len) in
         rw (is, x)
@@ -176,13 +170,13 @@ layout-says l v up down h short most near = by-rule (laid ds (subℕ up down) (r
           positive = ten-pos l;
           equal = rw (pow-add 10 l n) (omega arith);
         }))
-    by-rule (minute z e far few is) =
+    by-rule (minute z e far is) =
         rw is
         (says-moved {a = 0} {b = suc z + l} up down (omega (arith, from-zero (z + length ds) e, len))
         (record {
           n = v;
           d = 10 ^ l * 10 ^ suc z;
-          is = scientific-reads l v (negsuc z) h ∙ exponent-down v l z (omega arith);
+          is = scientific-reads l v (negsuc z) h ∙ exponent-down v l z (omega (arith, from-zero (z + length ds) e, len));
           positive = mul-pos (ten-pos l) (ten-pos (suc z));
           equal = rw (pow-add 10 (suc z) l) (omega arith);
         }))

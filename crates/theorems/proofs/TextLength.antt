@@ -1,14 +1,12 @@
 -- The text of every pattern has 3 to 25 bytes, and a call leaves a buffer as long as it was. Assumes nothing.
 use mathlib.Core.Bool.{not}
 use mathlib.Core.List.{List}
-use mathlib.Core.Path.{_≡_, sym, _∙_}
-use Prim.Native.Nat.{ℕ, _+_, _≤_, _<_}
+use mathlib.Core.Path.{_≡_}
+use Prim.Native.Nat.{ℕ, _≤_, _<_}
 use native.Mathlib.Nat.{pos-of-ne-zero}
 use native.Mathlib.Omega.{arith}
 use lib.Dec.{T, eqb, ltb, nltb→le, T-not}
 use lib.ListN.{length}
-use Rattle.laws.proofs.Differences as difference
-use Rattle.laws.proofs.Differences.{mag-size}
 use Rattle.laws.proofs.Branches.{either}
 use Rattle.rules.specs.Bytes.{bytes}
 use Rattle.rules.specs.Numbers.{numeral}
@@ -39,22 +37,15 @@ printed-room c w v room =
 
 module _ (w : Width) (q : ℕ) (p : Printable w q) where
   -- The digits of a finite magnitude, laid out.
-  pub layout-within : (m : Pair) → Finite w m → Spans (numeral (decimal w m .len) (decimal w m .digits)) (decimal w m .k) (layout (numeral (decimal w m .len) (decimal w m .digits)) (decimal w m .k))
+  pub layout-within : (m : Pair) → Finite w m → Spans (numeral (decimal w m .len) (decimal w m .digits)) (layout (numeral (decimal w m .len) (decimal w m .digits)) (decimal w m .k))
   layout-within m h =
       let d = printed w q p m h in
       let n = length-numeral (decimal w m .len) (decimal w m .digits) in
-      layout-length _ _ (omega (arith, d .some)) (omega (arith, d .few, p .few)) (omega (arith, d .near, mag-size (decimal w m .k)))
+      layout-length _ _ (omega (arith, d .some)) (omega (arith, d .few, p .few)) (omega (arith, d .near))
 
   -- It has more bytes than digits.
   pub layout-covers : (m : Pair) → Finite w m → decimal w m .len < length (layout (numeral (decimal w m .len) (decimal w m .digits)) (decimal w m .k))
-  layout-covers m h =
-      let d = printed w q p m h in
-      let n = length-numeral (decimal w m .len) (decimal w m .digits) in
-      omega (
-        arith,
-        layout-within m h .covers (λ z e.
-            omega (arith, difference.crossed (d .up) (d .down) 0 (z + length (numeral (decimal w m .len) (decimal w m .digits))) (sym (d .k-is) ∙ e), d .kk-least)),
-      )
+  layout-covers m h = omega (arith, layout-within m h .covers, length-numeral (decimal w m .len) (decimal w m .digits))
 
   -- A magnitude's text has 3 to 24 bytes.
   shown-within : (m : Pair) → (0 < m .f → Finite w m) → Within 24 (shown w m)

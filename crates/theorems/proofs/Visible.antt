@@ -13,7 +13,7 @@ use Rattle.rules.specs.Numbers.{neg, numeral, plain, count}
 use Rattle.rules.specs.Width.{Width}
 use Rattle.rules.specs.Pattern.{Pair, negative, significand, special, magnitude}
 use Rattle.rules.specs.Digits.{decimal}
-use Rattle.rules.specs.Layout.{zeros, joined, trimmed, oneKept, decimals, exponent, scientific, byRule, layout}
+use Rattle.rules.specs.Layout.{zeros, exponent, scientific, byRule, layout}
 use Rattle.rules.specs.Text.{shown, signed, text}
 
 -- Whether each byte of a text passes a test.
@@ -65,27 +65,6 @@ unfolding each visible zeros
 some-zeros zero = tt
 some-zeros (suc n) = some-zeros n
 
--- Digits behind the point, of which some may go.
-join : (d : ℕ) (t : List ℕ) → T (visible d) → T (each visible t) → T (each visible (joined d t))
-unfolding each joined
-join d [] h k = either (λ (t : List ℕ). T (each visible t)) (eqb d byte0) (λ z. tt) (λ z. and-both (visible d) _ h tt)
-join d (b ∷ t) h k = and-both (visible d) _ h k
-
-trim : (t : List ℕ) → T (each visible t) → T (each visible (trimmed t))
-unfolding each trimmed
-trim [] h = tt
-trim (b ∷ t) h = join b (trimmed t) (and-left (visible b) _ h) (trim t (and-right (visible b) _ h))
-
-keep-one : (t : List ℕ) → T (each visible t) → T (each visible (oneKept t))
-unfolding each oneKept
-keep-one [] h = tt
-keep-one (b ∷ t) h = and-both (visible b) _ (and-left (visible b) _ h) (trim t (and-right (visible b) _ h))
-
-fraction : (t : List ℕ) → T (each visible t) → T (each visible (decimals t))
-unfolding decimals
-fraction t h =
-    either (λ (u : List ℕ). T (each visible u)) (ltb 324 (length t)) (λ z. keep-one (take 324 t) (first visible 324 t h)) (λ z. h)
-
 -- Exponents.
 power : (e : ℤ) → T (each visible (exponent e))
 unfolding each visible exponent plain
@@ -107,11 +86,11 @@ by-rule ds k kk h =
     (λ t. both visible ds _ h (both visible (zeros (natAbs k)) _ (some-zeros (natAbs k)) tt))
     (λ t.
     either (λ (t : List ℕ). T (each visible t)) (ltZ (pos 0) kk && leZ kk (pos 21))
-    (λ u. both visible (take (natAbs kk) ds) _ (first visible (natAbs kk) ds h) (fraction (drop (natAbs kk) ds) (later visible (natAbs kk) ds h)))
+    (λ u. both visible (take (natAbs kk) ds) _ (first visible (natAbs kk) ds h) (later visible (natAbs kk) ds h))
     (λ u.
     either (λ (t : List ℕ). T (each visible t)) (ltZ (neg 6) kk && leZ kk (pos 0))
-    (λ x. fraction (zeros (natAbs kk) ++ ds) (both visible (zeros (natAbs kk)) ds (some-zeros (natAbs kk)) h))
-    (λ x. either (λ (t : List ℕ). T (each visible t)) (ltZ kk (neg 324)) (λ y. tt) (λ y. scientific-layout ds (kk -ℤ pos 1) h))))
+    (λ x. both visible (zeros (natAbs kk)) ds (some-zeros (natAbs kk)) h)
+    (λ x. scientific-layout ds (kk -ℤ pos 1) h)))
 
 magnitude-text : (w : Width) (m : Pair) → T (each visible (shown w m))
 unfolding each visible shown bytes layout

@@ -1,4 +1,4 @@
--- `layout::downward` meets its contract: rules 2 to 6. Assumes nothing.
+-- `layout::downward` meets its contract: rules 2, 3, 5 and 6. Assumes nothing.
 use mathlib.Core.Path.{_≡_, sym}
 use Prim.Native.Nat.{ℕ, _+_, _-_, _^_, _<_}
 use native.Mathlib.Omega.{arith}
@@ -8,8 +8,6 @@ use mir.Facts.{toZ-ofZ}
 use mir.Syntax.{w32}
 use mir.Val.{ofZ, toZ}
 use Rattle.laws.proofs.Differences.{is-negsuc}
-use Rattle.laws.proofs.Puts.{then}
-use Rattle.rules.specs.Bytes.{bytes}
 use Rattle.layout.proofs.Ruled as ruled
 use Rattle.laws.proofs.Signed.{minus, minus-fits}
 use Rattle.layout.proofs.Texts.{digits-long}
@@ -27,13 +25,13 @@ all : (c : tie.Else1) → zeros (c .before .before) + c .before .before .args .l
 all c = omega arith
 
 -- The exponent below zero.
-abbrev start : tie.Else3 → tie.Start
-start c = c .before .before .before .before
+abbrev start : tie.Else2 → tie.Start
+start c = c .before .before .before
 
-near : (c : tie.Else3) → zeros (start c) + 1 < 2 ^ 31
+near : (c : tie.Else2) → zeros (start c) + 1 < 2 ^ 31
 near c = omega arith
 
-exponent : (c : tie.Else3) → toZ w32 (ofZ w32 (pos 0 -ℤ toZ w32 (zeros (start c) + 1))) ≡ negsuc (zeros (start c))
+exponent : (c : tie.Else2) → toZ w32 (ofZ w32 (pos 0 -ℤ toZ w32 (zeros (start c) + 1))) ≡ negsuc (zeros (start c))
 exponent c = rw (minus _ (near c), toZ-ofZ (minus-fits _ (near c))) (sym (is-negsuc (zeros (start c)) 0 (zeros (start c) + 1) (omega arith)))
 
 sub-inner : tie.Need-sub-inner
@@ -49,7 +47,7 @@ returns : tie.Need-returns
 returns c =
     let test = c .before .before .before .before in
     let start = test .before .before in
-    rw (ruled.inner _ (long start) (start .pre .0 .some) (start .args .len - start .args .k) _ (start .pre .1) (omega arith) (omega arith) (omega arith))
+    rw (ruled.inner _ (long start) (start .pre .0 .some) (start .args .len - start .args .k) _ (start .pre .1 .0) (omega arith) (omega arith) (omega arith))
     (c .before .before .inner .ensures)
 
 small-requires : tie.Need-small-requires
@@ -65,24 +63,6 @@ returns-2 c =
     rw (ruled.small _ (long start) (start .pre .0 .some) (zeros start) (start .args .k) (all (test .before)) (test .if2 .taken))
     (c .before .before .small .ensures)
 
-byte-requires : tie.Need-byte-requires
-byte-requires c κs = omega arith
-
-put-point-zero-requires : tie.Need-put-point-zero-requires
-put-point-zero-requires c κs = omega arith
-
-same-length-3 : tie.Need-same-length-3
-same-length-3 c = omega arith
-
-returns-3 : tie.Need-returns-3
-unfolding bytes
-returns-3 c =
-    let zero = c .before .before .before .before .before .before in
-    let test = zero .before .before in
-    let start = test .before .before .before .before in
-    rw (ruled.tiny _ (long start) (start .pre .0 .some) (zeros start) (start .args .k) (all (test .before .before)) (test .if3 .taken))
-    (then (zero .byte .ensures) (c .before .before .put-point-zero .ensures))
-
 add-scientific : tie.Need-add-scientific
 add-scientific c = omega arith
 
@@ -97,14 +77,14 @@ scientific-requires c κs =
     let test = c .before in
     (start test .pre .0, rw (exponent test) (omega arith))
 
-same-length-4 : tie.Need-same-length-4
-same-length-4 c = omega arith
+same-length-3 : tie.Need-same-length-3
+same-length-3 c = omega arith
 
-returns-4 : tie.Need-returns-4
-returns-4 c =
+returns-3 : tie.Need-returns-3
+returns-3 c =
     let test = c .before .before .before .before in
     let s = start test in
-    rw (ruled.minute _ (long s) (s .pre .0 .some) (zeros s) (s .args .k) (all (test .before .before)) (test .before .if2 .left) (test .if3 .left))
+    rw (ruled.minute _ (long s) (s .pre .0 .some) (zeros s) (s .args .k) (all (test .before)) (test .if2 .left))
     (rw (exponent test) at (c .before .before .scientific .ensures))
 
 pub downward-spec : {M : Type 1} → statement M
@@ -118,13 +98,9 @@ downward-spec =
     small-requires
     same-length-2
     returns-2
-    byte-requires
-    put-point-zero-requires
-    same-length-3
-    returns-3
     add-scientific
     cast-scientific
     sub-scientific
     scientific-requires
-    same-length-4
-    returns-4)
+    same-length-3
+    returns-3)

@@ -10,18 +10,15 @@ moved-requires c κs = omega arith
 byte-requires : tie.Need-byte-requires
 byte-requires c κs = omega arith
 
-cut-requires : tie.Need-cut-requires
-cut-requires c κs = omega arith
-
 same-length : tie.Need-same-length
 same-length c = omega arith
 
 returns : tie.Need-returns
 returns c =
-    let dot = c .before .before .before .before in
+    let dot = c .before .before in
     let gap = dot .before .before .before .before in
     let start = gap .before .before .before in
-    inner-text _ _ (start .pre .0) _ (start .pre .1) (gap .moved .ensures) (dot .byte .ensures) (c .cut .ensures)
+    inner-text _ _ (start .pre .0) _ (start .pre .1) (omega arith) (gap .moved .ensures) (dot .byte .ensures)
 
 pub inner-spec : {M : Type 1} → statement M
-inner-spec = tie.close (tie.spec moved-requires byte-requires cut-requires same-length returns)
+inner-spec = tie.close (tie.spec moved-requires byte-requires same-length returns)

@@ -19,21 +19,17 @@ byte-requires-2 c κs = omega arith
 zeros-requires : tie.Need-zeros-requires
 zeros-requires c κs = omega arith
 
-cut-requires : tie.Need-cut-requires
-cut-requires c κs = omega arith
-
 same-length : tie.Need-same-length
 same-length c = omega arith
 
 returns : tie.Need-returns
 returns c =
-    let zeros = c .before .before .before .before in
+    let zeros = c .before .before in
     let dot = zeros .before .before .before .before in
     let zero = dot .before .before .before .before in
     let gap = zero .before .before .before .before in
     let start = gap .before .before .before in
-    small-text _ _ (start .pre .0) _ (start .pre .1) (gap .moved .ensures) (zero .byte .ensures) (dot .byte2 .ensures) (zeros .zeros .ensures)
-    (c .cut .ensures)
+    small-text _ _ (start .pre .0) _ (gap .moved .ensures) (zero .byte .ensures) (dot .byte2 .ensures) (zeros .zeros .ensures)
 
 pub small-spec : {M : Type 1} → statement M
 small-spec =
@@ -44,6 +40,5 @@ small-spec =
     byte-requires
     byte-requires-2
     zeros-requires
-    cut-requires
     same-length
     returns)
