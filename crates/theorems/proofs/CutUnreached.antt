@@ -1,5 +1,5 @@
--- The crate's layout has a cut at 324 places and a rule 4 that no finite pattern reaches: on every length and exponent of one, of any width,
--- it equals the layout of the rules. Assumes nothing.
+-- The crate's layout has a cut at 324 places and a rule 4 that no finite pattern reaches: on every length and exponent of one, of any
+-- printable width, it equals the layout of the rules. Assumes nothing.
 use mathlib.Core.Bool.{true, false, _&&_}
 use mathlib.Core.List.{List, [], _∷_, _++_}
 use mathlib.Core.Path.{_≡_, refl, sym, ap, _∙_}
@@ -131,7 +131,7 @@ unreached kk r (in-rule-3 t more) = omega (arith, decimals-rule-3 kk r t)
 unreached (pos n) r (in-rule-4 t) = t
 unreached (negsuc n) r (in-rule-4 t) = omega (arith, leb→le n 322 (r .least), ltb→lt (places - 1) n t)
 
--- A finite pattern other than zero, of any width.
+-- A finite pattern other than zero, of any printable width. Zero is not laid out.
 module _ (w : Width) (q : ℕ) (p : Printable w q) (v : ℕ) (o : Ordinary w v) where
   abbrev len : ℕ
   len = decimal w (magnitude w v) .len

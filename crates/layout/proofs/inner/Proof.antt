@@ -18,7 +18,7 @@ returns c =
     let dot = c .before .before in
     let gap = dot .before .before .before .before in
     let start = gap .before .before .before in
-    inner-text _ _ (start .pre .0) _ (start .pre .1) (omega arith) (gap .moved .ensures) (dot .byte .ensures)
+    inner-text _ _ _ (start .pre .1) (omega arith) (gap .moved .ensures) (dot .byte .ensures)
 
 pub inner-spec : {M : Type 1} → statement M
 inner-spec = tie.close (tie.spec moved-requires byte-requires same-length returns)

@@ -28,8 +28,8 @@ returns c =
     let dot = zeros .before .before .before .before in
     let zero = dot .before .before .before .before in
     let gap = zero .before .before .before .before in
-    let start = gap .before .before .before in
-    small-text _ _ (start .pre .0) _ (gap .moved .ensures) (zero .byte .ensures) (dot .byte2 .ensures) (zeros .zeros .ensures)
+    let given = gap .before .before .before .args in
+    small-text (given .buf .now) (given .len) (given .zeros) (gap .moved .ensures) (zero .byte .ensures) (dot .byte2 .ensures) (zeros .zeros .ensures)
 
 pub small-spec : {M : Type 1} → statement M
 small-spec =
