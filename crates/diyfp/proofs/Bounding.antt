@@ -11,10 +11,9 @@ use lib.Signed.{nonNeg}
 use mir.Syntax.{w32}
 use mir.Val.{SFits}
 use Rattle.laws.proofs.Branches.{either}
-use Rattle.laws.proofs.Differences.{same}
 use Rattle.laws.proofs.Exponents.{lesser-exponent}
 use Rattle.laws.proofs.Signed as signed
-use Rattle.laws.proofs.Signed.{read, Held, Apart, held, less, at-least}
+use Rattle.laws.proofs.Signed.{read, Held, held, at-least}
 use Rattle.rules.specs.Width.{Width, off}
 use Rattle.rules.specs.Pattern.{Pair}
 use Rattle.rules.specs.Boundaries.{shifted, upper, below, lower}
@@ -22,40 +21,29 @@ use Rattle.theorems.proofs.Boundaries.{Finite, apart, upper-shifted, value-shif
 use Rattle.theorems.proofs.Widths.{Sound}
 use Rattle.diyfp.specs.Pairs.{Stands, StandsIn, Becomes, Shiftable, Bounds}
 use Rattle.powers.proofs.Small.{Small}
+use Rattle.diyfp.proofs.Lowering as lowering
+use Rattle.diyfp.proofs.Lowering.{lowered}
 use Rattle.diyfp.proofs.Standing.{kind}
 
 -- Twice the significand and one has one bit more, and can be shifted.
-pub upper-shiftable : {w : Width} {m : Pair} → Finite w m → Shiftable w (w .S + 2) (record { f = 2 * m .f + 1; exp = m .exp - 1 })
-upper-shiftable {w} {m} h =
+pub upper-shiftable : {w : Width} {m : Pair} → w .S + 2 ≤ w .N → Finite w m → Shiftable w (w .N) (record { f = 2 * m .f + 1; exp = m .exp - 1 })
+upper-shiftable {w} {m} room h =
     record {
       some = omega arith;
-      fits = omega (arith, h .fits, pow-add 2 (w .S) 1, pow-add 2 (w .S) 2);
+      fits = omega (arith, h .fits, pow-add 2 (w .S) 1, pow-add 2 (w .S) 2, pow-mono {i = w .S + 2} {j = w .N} room);
       least-exponent = omega (arith, h .least-exponent);
       most-exponent = omega (arith, h .most-exponent);
     }
 
 module _ {w : Width} {f : ℕ} {e : ℤ} (small : Small w) (p : StandsIn w (Finite w) f e) where
-  -- An exponent d below the magnitude's.
-  lowered : (d : ℕ) → d ≤ w .N → (m : Pair) → Stands w m f e → Held (read e -ℤ pos d) (m .exp) (off w + d)
-  lowered d few m s =
-      let h = kind p m s in
-      let near : Apart (m .exp) (off w) = omega (arith, h .most-exponent, small .sum) in
-      less d (held (record { is = s .exponent }) near .back) (omega (arith, near, small .sum))
-
-  -- An i32 holds it.
+  -- An i32 holds an exponent d below the magnitude's ..
   pub falls : (d : ℕ) → d ≤ w .N → SFits w32 (read e -ℤ pos d)
-  falls d few = lowered d few (p .pair) (p .stands) .fits
+  falls d few = lowered small (p .stands) (p .kind .most-exponent) d few .fits
 
-  -- The pair at that exponent, whatever its significand.
+  -- .. and gives back the pair at that exponent, whatever its significand.
   pub beside : (d : ℕ) → d ≤ w .N → (m : Pair) → Stands w m f e → {g : ℕ} (x : ℕ) → g ≡ x →
       Stands w (record { f = x; exp = m .exp - d }) g (read (read e -ℤ pos d))
-  beside d few m s x is =
-      record {
-        significand = is;
-        exponent =
-            lowered d few m s .back .is
-            ∙ same (m .exp) (off w + d) (m .exp - d) (off w) (omega (arith, kind p m s .least-exponent));
-      }
+  beside d few m s = lowering.beside small s (kind p m s .most-exponent) d few (omega (arith, kind p m s .least-exponent))
 
   -- A word of W numbers holds a small multiple of the significand.
   pub multiple : (d W : ℕ) → d ≤ 4 → 2 ^ (w .S + 3) ≤ W → (m : Pair) → Stands w m f e → f * d % W ≡ d * m .f
@@ -157,12 +145,12 @@ module _ {w : Width} {q : ℕ} (sound : Sound w q) (small : Small w) (W : ℕ) (
   above-stands m s = beside small p 1 (small .some) m s (2 * m .f + 1) (ap (λ (x : ℕ). x + 1) (twice m s))
 
   -- .. and can be shifted.
-  pub above : StandsIn w (Shiftable w (w .S + 2)) (f * 2 % W + 1) (read (read e -ℤ pos 1))
+  pub above : StandsIn w (Shiftable w (w .N)) (f * 2 % W + 1) (read (read e -ℤ pos 1))
   above =
       record {
         pair = record { f = 2 * p .pair .f + 1; exp = p .pair .exp - 1 };
         stands = above-stands (p .pair) (p .stands);
-        kind = upper-shiftable (p .kind);
+        kind = upper-shiftable (omega (arith, sound .deep)) (p .kind);
       }
 
   -- With the upper boundary shifted, (u, y), and the lower one where it lies, (b, d), the lower one is brought to the upper's exponent.

@@ -1,4 +1,5 @@
 pub mod Standing
+pub mod Lowering
 pub mod Splitting
 pub mod Shifting
 pub mod Bounding

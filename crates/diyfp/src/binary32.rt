@@ -49,32 +49,16 @@ impl DiyFp32 {
         }
     }
 
-    // Shifted left until bit 31 is set.
+    // Shifted left until bit 31 is set: at once, by the number of zeros above the highest bit set.
     pub fn normalize(self) -> DiyFp32
         requires { ⌜ StandsIn w32 (Shiftable w32 32) (self .f) (self .e) ⌝ }
         ensures { λ r. ⌜ Becomes w32 (shifted 32 32) (self .f) (self .e) (r .f) (r .e) ⌝ }
     {
-        let mut res = self;
-        while (res.f & (1 << 31)) == 0 {
-            res.f <<= 1;
-            res.e -= 1;
+        let zeros = u32::leading_zeros(self.f);
+        DiyFp32 {
+            f: self.f << zeros,
+            e: self.e - zeros as i32,
         }
-        res
-    }
-
-    // The same for a significand of at most 25 bits: to the bit above the hidden bit one by one, and the last 7 in one step.
-    fn normalize_boundary(self) -> DiyFp32
-        requires { ⌜ StandsIn w32 (Shiftable w32 25) (self .f) (self .e) ⌝ }
-        ensures { λ r. ⌜ Becomes w32 (shifted 32 32) (self .f) (self .e) (r .f) (r .e) ⌝ }
-    {
-        let mut res = self;
-        while (res.f & (HIDDEN_BIT << 1)) == 0 {
-            res.f <<= 1;
-            res.e -= 1;
-        }
-        res.f <<= 7;
-        res.e -= 7;
-        res
     }
 
     // The lower boundary where it lies, before it is brought to the upper's exponent.
@@ -103,7 +87,7 @@ impl DiyFp32 {
             f: (self.f << 1) + 1,
             e: self.e - 1,
         };
-        let plus = above.normalize_boundary();
+        let plus = above.normalize();
         let below = self.below();
         let minus = DiyFp32 {
             f: below.f << (below.e - plus.e),

@@ -49,32 +49,16 @@ impl DiyFp64 {
         }
     }
 
-    // Shifted left until bit 63 is set.
+    // Shifted left until bit 63 is set: at once, by the number of zeros above the highest bit set.
     pub fn normalize(self) -> DiyFp64
         requires { ⌜ StandsIn w64 (Shiftable w64 64) (self .f) (self .e) ⌝ }
         ensures { λ r. ⌜ Becomes w64 (shifted 64 64) (self .f) (self .e) (r .f) (r .e) ⌝ }
     {
-        let mut res = self;
-        while (res.f & (1 << 63)) == 0 {
-            res.f <<= 1;
-            res.e -= 1;
+        let zeros = u64::leading_zeros(self.f);
+        DiyFp64 {
+            f: self.f << zeros,
+            e: self.e - zeros as i32,
         }
-        res
-    }
-
-    // The same for a significand of at most 54 bits: to the bit above the hidden bit one by one, and the last 10 in one step.
-    fn normalize_boundary(self) -> DiyFp64
-        requires { ⌜ StandsIn w64 (Shiftable w64 54) (self .f) (self .e) ⌝ }
-        ensures { λ r. ⌜ Becomes w64 (shifted 64 64) (self .f) (self .e) (r .f) (r .e) ⌝ }
-    {
-        let mut res = self;
-        while (res.f & (HIDDEN_BIT << 1)) == 0 {
-            res.f <<= 1;
-            res.e -= 1;
-        }
-        res.f <<= 10;
-        res.e -= 10;
-        res
     }
 
     // The lower boundary where it lies, before it is brought to the upper's exponent.
@@ -103,7 +87,7 @@ impl DiyFp64 {
             f: (self.f << 1) + 1,
             e: self.e - 1,
         };
-        let plus = above.normalize_boundary();
+        let plus = above.normalize();
         let below = self.below();
         let minus = DiyFp64 {
             f: below.f << (below.e - plus.e),

@@ -1,40 +1,31 @@
--- `diyfp::binary64::DiyFp64::normalize` meets its contract. The invariant: the pair is on its way, shifted left so far. Assumes nothing.
-use mathlib.Core.Path.{_≡_}
-use Prim.Native.Nat.{_-_, _^_}
-use lib.Bits.{bitAnd}
-use lib.Dec.{lit<, lit≤}
+-- `diyfp::binary64::DiyFp64::normalize` meets its contract. Assumes nothing.
+use native.Mathlib.Omega.{arith}
+use lib.Dec.{lit≤}
 use Rattle.rules.specs.Width.{w64}
 use Rattle.powers.proofs.Small.{small64}
-use Rattle.diyfp.proofs.Shifting.{Kept, Step, begins, turn, ends, top-set}
+use Rattle.diyfp.proofs.Shifting.{fits-u64, fits-i32, filled, falls, becomes}
 use Rattle.diyfp.proofs.binary64.DiyFp64.normalize.Statement.{statement}
 use Rattle.diyfp.proofs.binary64.DiyFp64.normalize.Tie as tie
 
-abbrev Inv-loop : tie.InvT-loop
-Inv-loop res₀ res = Kept w64 64 (res₀ .f) (res₀ .e) (res .f) (res .e)
+cast-t3 : tie.Need-cast-t3
+cast-t3 c = fits-u64 64 _ (lit≤ tt)
 
-abbrev μ-loop : tie.MeasureT-loop
-μ-loop res₀ res = 2 ^ 64 - res .f
-
-loop-holds : tie.Need-loop-holds Inv-loop μ-loop
-loop-holds c = begins small64 (c .pre)
-
-turns : (c : tie.At-loop Inv-loop μ-loop) → bitAnd (c .loop .res .f) (2 ^ 63) ≡ 0 →
-    Step w64 64 (2 ^ 64) (c .before .args .self .f) (c .before .args .self .e) (c .loop .res .f) 1 (c .loop .res .e)
+shl-t4 : tie.Need-shl-t4
 unfolding w64
-turns c unset = turn small64 (c .before .pre) (c .loop .inv) (2 ^ 64) (lit< tt) (lit≤ tt) (lit≤ tt) unset
+shl-t4 c = omega (arith, filled small64 (c .before .before .pre) .few)
 
-sub-res : tie.Need-sub-res Inv-loop μ-loop
-sub-res c = turns (c .before .before .before .before .before) (c .before .before .before .if1 .taken) .falls
+cast-t5 : tie.Need-cast-t5
+cast-t5 c = fits-i32 64 _ (lit≤ tt)
 
-loop-less : tie.Need-loop-less Inv-loop μ-loop
-loop-less c = turns (c .before .before .before .before .before) (c .before .before .before .if1 .taken) .grows
-
-loop-again : tie.Need-loop-again Inv-loop μ-loop
-loop-again c = turns (c .before .before .before .before .before) (c .before .before .before .if1 .taken) .keeps
-
-returns : tie.Need-returns Inv-loop μ-loop
+sub-t6 : tie.Need-sub-t6
 unfolding w64
-returns c = ends small64 (c .before .before .before .pre) (c .before .before .loop .inv) (lit≤ tt) (top-set _ 63 (c .if1 .left))
+sub-t6 c = falls small64 (c .before .before .before .before .pre)
+
+returns : tie.Need-returns
+unfolding w64
+returns c =
+    let p = c .before .before .before .before .pre in
+    becomes small64 p (omega (arith, filled small64 p .fits))
 
 pub normalize-spec : {M : Type 1} → statement M
-normalize-spec = tie.close (tie.spec Inv-loop μ-loop loop-holds sub-res loop-less loop-again returns)
+normalize-spec = tie.close (tie.spec cast-t3 shl-t4 cast-t5 sub-t6 returns)

@@ -19,9 +19,9 @@ sub-t8 : tie.Need-sub-t8
 unfolding w64
 sub-t8 c = falls small64 (c .before .before .before .pre) 1 (lit≤ tt)
 
-normalize-boundary-requires : tie.Need-normalize-boundary-requires
+normalize-requires : tie.Need-normalize-requires
 unfolding w64
-normalize-boundary-requires c κs = above sound64 small64 (2 ^ 64) (lit≤ tt) (c .before .before .before .pre)
+normalize-requires c κs = above sound64 small64 (2 ^ 64) (lit≤ tt) (c .before .before .before .pre)
 
 below-requires : tie.Need-below-requires
 below-requires c κs = c .before .before .before .before .pre
@@ -30,11 +30,11 @@ below-requires c κs = c .before .before .before .before .pre
 lowers : (c : tie.After-below) →
     let p = c .before .before .before .before .before .pre in
     Brought w64 (p .pair) (2 ^ 64) (c .below .result .f)
-    (read (c .below .result .e) -ℤ read (c .before .normalize-boundary .result .e))
+    (read (c .below .result .e) -ℤ read (c .before .normalize .result .e))
 unfolding w64
 lowers c =
     let p = c .before .before .before .before .before .pre in
-    brings sound64 small64 (2 ^ 64) (lit≤ tt) p (c .below .ensures) (c .before .normalize-boundary .ensures) (p .pair) (p .stands)
+    brings sound64 small64 (2 ^ 64) (lit≤ tt) p (c .below .ensures) (c .before .normalize .ensures) (p .pair) (p .stands)
 
 sub-t8-2 : tie.Need-sub-t8-2
 sub-t8-2 c = lowers (c .before .before .before .before) .fits
@@ -52,9 +52,9 @@ unfolding w64
 returns c =
     let a = c .before .before .before .before .before .before in
     bounds sound64 small64 (2 ^ 64) (lit≤ tt) (a .before .before .before .before .before .pre) (a .below .ensures)
-    (a .before .normalize-boundary .ensures)
+    (a .before .normalize .ensures)
 
 pub normalized-boundaries-spec : {M : Type 1} → statement M
 normalized-boundaries-spec =
     tie.close
-    (tie.spec add-t7 sub-t8 normalize-boundary-requires below-requires sub-t8-2 cast-t6 shl-t7 returns)
+    (tie.spec add-t7 sub-t8 normalize-requires below-requires sub-t8-2 cast-t6 shl-t7 returns)
