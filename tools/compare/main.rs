@@ -22,8 +22,8 @@ use std::time::{Duration, Instant};
 
 use calls::Caller;
 use options::Options;
-use plan::{edges, rooms, serving, spread, too_short, Block, Plan};
-use random::random;
+use plan::{edges, rooms, serving, spread, too_short, Block, Plan, Sweep};
+use random::{random, subnormal};
 use report::{duration, grouped, Differences};
 use rows::Rows;
 use width::{Binary32, Binary64, Width, ENTRIES};
@@ -79,10 +79,12 @@ fn work(plan: &Plan, next: &AtomicU64, done: &AtomicU64, differences: &Differenc
         if i >= plan.blocks() {
             return caller.calls + rows.calls;
         }
-        match plan.block(i) {
-            Block::All32 { first, end } => compare_block::<Binary32>(&mut caller, first, end, spread),
-            Block::Random64 { first, end } => compare_block::<Binary64>(&mut caller, first, end, |n| random(plan.seed, n)),
-            Block::Rows { first, end } => (first..end).for_each(|n| rows.compare_random(plan.seed, n)),
+        let Block { sweep, first, end } = plan.block(i);
+        match sweep {
+            Sweep::All32 => compare_block::<Binary32>(&mut caller, first, end, spread),
+            Sweep::Random64 => compare_block::<Binary64>(&mut caller, first, end, |n| random(plan.seed, n)),
+            Sweep::Subnormal64 => compare_block::<Binary64>(&mut caller, first, end, |n| n << 63 | subnormal(plan.seed, n, 52)),
+            Sweep::Rows => (first..end).for_each(|n| rows.compare_random(plan.seed, n)),
         }
         done.fetch_add(1, Relaxed);
     }
@@ -111,7 +113,11 @@ fn compare_sweeps(plan: &Plan, threads: usize, differences: &Differences) -> u64
 /// Says which patterns were compared one by one.
 fn print_patterns(plan: &Plan, edges32: u64, edges64: u64) {
     println!("f32: {} patterns{}", grouped(plan.all32), if plan.all32 == 1 << 32 { ", which are all" } else { "" });
-    println!("f64: {} random patterns", grouped(plan.random64));
+    println!(
+        "f64: {} random patterns, and {} random subnormals, each number of bits with the same chance",
+        grouped(plan.random64),
+        grouped(plan.subnormal64)
+    );
     println!("  each at both entries, in a buffer of 25 to 64 or 4,096 bytes in turn, and in one of 0 to 24 bytes");
     println!("every exponent with the first, second, middle and last significand and both signs:");
     println!(
@@ -134,9 +140,9 @@ fn print_rows(plan: &Plan, edge_rows: u64) {
 fn main() {
     let options = Options::read();
     let plan = if options.quick {
-        Plan { seed: options.seed, all32: 1 << 24, random64: 4_000_000, rows: 1_000 }
+        Plan { seed: options.seed, all32: 1 << 24, random64: 4_000_000, subnormal64: 1_000_000, rows: 1_000 }
     } else {
-        Plan { seed: options.seed, all32: 1 << 32, random64: 500_000_000, rows: 100_000 }
+        Plan { seed: options.seed, all32: 1 << 32, random64: 500_000_000, subnormal64: 50_000_000, rows: 100_000 }
     };
     let threads = thread::available_parallelism().map_or(1, |n| n.get());
     let differences = Differences::new();

@@ -45,12 +45,20 @@ pub fn edges<W: Width>() -> impl Iterator<Item = u64> {
 const BLOCK: u64 = 1 << 16;
 const ROW_BLOCK: u64 = 1 << 7;
 
-/// A block of a sweep: patterns or rows from `first` on, below `end`.
+/// What is gone through.
 #[derive(Clone, Copy)]
-pub enum Block {
-    All32 { first: u64, end: u64 },
-    Random64 { first: u64, end: u64 },
-    Rows { first: u64, end: u64 },
+pub enum Sweep {
+    All32,
+    Random64,
+    Subnormal64,
+    Rows,
+}
+
+/// A block of a sweep: patterns or rows from `first` on, below `end`.
+pub struct Block {
+    pub sweep: Sweep,
+    pub first: u64,
+    pub end: u64,
 }
 
 /// How many patterns or rows each sweep has.
@@ -58,6 +66,7 @@ pub struct Plan {
     pub seed: u64,
     pub all32: u64,
     pub random64: u64,
+    pub subnormal64: u64,
     pub rows: u64,
 }
 
@@ -73,38 +82,32 @@ fn turn(i: u64, few: u64, all: u64) -> (bool, u64) {
 }
 
 impl Plan {
-    fn blocks64(&self) -> u64 {
-        self.random64.div_ceil(BLOCK)
-    }
-
-    fn blocks_of_patterns(&self) -> u64 {
-        self.all32.div_ceil(BLOCK) + self.blocks64()
-    }
-
-    fn blocks_of_rows(&self) -> u64 {
-        self.rows.div_ceil(ROW_BLOCK)
+    /// Each sweep, with how many it has, and how many of them make a block.
+    fn sweeps(&self) -> [(Sweep, u64, u64); 4] {
+        [
+            (Sweep::All32, self.all32, BLOCK),
+            (Sweep::Random64, self.random64, BLOCK),
+            (Sweep::Subnormal64, self.subnormal64, BLOCK),
+            (Sweep::Rows, self.rows, ROW_BLOCK),
+        ]
     }
 
     pub fn blocks(&self) -> u64 {
-        self.blocks_of_patterns() + self.blocks_of_rows()
+        self.sweeps().iter().map(|(_, count, size)| count.div_ceil(*size)).sum()
     }
 
     /// Block number `i`. Those of the sweeps stand in turn, as evenly as their counts allow, so that the work goes on at one
     /// pace and the time left can be told.
     pub fn block(&self, i: u64) -> Block {
-        let part = |number: u64, size: u64, of: u64| (number * size, of.min((number + 1) * size));
-        let (is_of_rows, i) = turn(i, self.blocks_of_rows(), self.blocks());
-        if is_of_rows {
-            let (first, end) = part(i, ROW_BLOCK, self.rows);
-            return Block::Rows { first, end };
+        let (mut place, mut blocks) = (i, self.blocks());
+        for (sweep, count, size) in self.sweeps().into_iter().rev() {
+            let few = count.div_ceil(size);
+            let (is_of_sweep, number) = turn(place, few, blocks);
+            if is_of_sweep {
+                return Block { sweep, first: number * size, end: count.min((number + 1) * size) };
+            }
+            (place, blocks) = (number, blocks - few);
         }
-        let (is_64, i) = turn(i, self.blocks64(), self.blocks_of_patterns());
-        if is_64 {
-            let (first, end) = part(i, BLOCK, self.random64);
-            Block::Random64 { first, end }
-        } else {
-            let (first, end) = part(i, BLOCK, self.all32);
-            Block::All32 { first, end }
-        }
+        unreachable!("there is no block number {i}")
     }
 }
