@@ -1,8 +1,9 @@
 //! Times our calls beside the crate's, and beside other libraries' where they are installed.
 //!
-//! Usage: bench [--table FILE] [--plot FILE]
+//! Usage: bench [--table FILE] [--before FILE] [--plot FILE]
 //! Prints nanoseconds per number, and the ratio to the crate; the last line has our worst ratio. Writes the same as a table in
-//! Markdown and as a plot in SVG, where a file is named.
+//! Markdown and as a plot in SVG, where a file is named, and our times before and after as a table, where an earlier archive is
+//! timed too.
 
 #[path = "../archive.rs"]
 mod archive;
@@ -27,6 +28,10 @@ const ROUNDS: usize = 80;
 /// The places of the crate and of us among the printers.
 const CRATE: usize = 0;
 const OURS: usize = 1;
+
+/// The printers but an earlier archive of ours, which has the place after theirs.
+const COMPARED: usize = PRINTERS.len() - cfg!(before) as usize;
+const BEFORE: usize = COMPARED;
 
 /// What was measured of a workload: nanoseconds per number, for each printer.
 pub struct Measured {
@@ -96,12 +101,13 @@ fn print_table(all: &[Measured]) {
     }
 }
 
-fn markdown(all: &[Measured]) -> String {
+/// A table in Markdown of some of the printers, with a name for each.
+fn markdown(all: &[Measured], columns: &[(&str, usize)]) -> String {
     let row = |first: &str, cells: Vec<String>| format!("| {first} | {} |\n", cells.join(" | "));
-    let mut table = row("", PRINTERS.iter().map(|printer| printer.name.to_string()).collect());
-    table += &row("---", vec!["---:".to_string(); PRINTERS.len()]);
+    let mut table = row("", columns.iter().map(|(name, _)| name.to_string()).collect());
+    table += &row("---", vec!["---:".to_string(); columns.len()]);
     for measured in all {
-        table += &row(measured.name, (0..PRINTERS.len()).map(|printer| cell(measured, printer)).collect());
+        table += &row(measured.name, columns.iter().map(|(_, printer)| cell(measured, *printer)).collect());
     }
     table
 }
@@ -117,22 +123,30 @@ fn fail(message: &str) -> ! {
     exit(2)
 }
 
-/// The files that the program's words name for the table and for the plot.
-fn files() -> (Option<String>, Option<String>) {
-    let (mut table, mut plot) = (None, None);
+/// The files that the program's words name.
+#[derive(Default)]
+struct Files {
+    table: Option<String>,
+    before: Option<String>,
+    plot: Option<String>,
+}
+
+fn files() -> Files {
+    let mut files = Files::default();
     let mut words = std::env::args().skip(1);
     while let Some(word) = words.next() {
         match (word.as_str(), words.next()) {
-            ("--table", Some(file)) => table = Some(file),
-            ("--plot", Some(file)) => plot = Some(file),
-            _ => fail("usage: bench [--table FILE] [--plot FILE]"),
+            ("--table", Some(file)) => files.table = Some(file),
+            ("--before", Some(file)) if cfg!(before) => files.before = Some(file),
+            ("--plot", Some(file)) => files.plot = Some(file),
+            _ => fail("usage: bench [--table FILE] [--before FILE] [--plot FILE], --before with an earlier archive alone"),
         }
     }
-    (table, plot)
+    files
 }
 
 fn main() {
-    let (table, plot) = files();
+    let files = files();
     let workloads = workloads();
     let mut all = Vec::new();
     for (at, workload) in workloads.iter().enumerate() {
@@ -141,10 +155,14 @@ fn main() {
     }
     println!("nanoseconds per number, median of {} turns; in brackets the ratio to the crate", TURNS * ROUNDS);
     print_table(&all);
-    if let Some(file) = table {
-        write(&file, markdown(&all));
+    if let Some(file) = files.table {
+        let columns: Vec<_> = (0..COMPARED).map(|printer| (PRINTERS[printer].name, printer)).collect();
+        write(&file, markdown(&all, &columns));
     }
-    if let Some(file) = plot {
+    if let Some(file) = files.before {
+        write(&file, markdown(&all, &[("crate", CRATE), ("before", BEFORE), ("after", OURS)]));
+    }
+    if let Some(file) = files.plot {
         write(&file, plot::svg(&all));
     }
     let worst = all.iter().max_by(|a, b| a.ratio(OURS).total_cmp(&b.ratio(OURS))).expect("there are workloads");

@@ -3,7 +3,7 @@
 use std::fmt::Write;
 
 use crate::printers::PRINTERS;
-use crate::{Measured, OURS};
+use crate::{Measured, COMPARED, OURS};
 
 const WIDTH: f64 = 760.0;
 /// Where the bars start, and how long the longest is.
@@ -21,8 +21,8 @@ const OTHER_COLOUR: &str = "#b4bcc4";
 
 /// The plot as an SVG file.
 pub fn svg(all: &[Measured]) -> String {
-    let most = all.iter().flat_map(|measured| &measured.nanoseconds).fold(0.0, |most: f64, time| most.max(*time));
-    let height = TOP + all.len() as f64 * (HEAD + PRINTERS.len() as f64 * STEP + GAP);
+    let most = all.iter().flat_map(|measured| &measured.nanoseconds[..COMPARED]).fold(0.0, |most: f64, time| most.max(*time));
+    let height = TOP + all.len() as f64 * (HEAD + COMPARED as f64 * STEP + GAP);
     let mut svg = format!(
         "<svg xmlns=\"http://www.w3.org/2000/svg\" viewBox=\"0 0 {WIDTH} {height}\" width=\"{WIDTH}\" height=\"{height}\" \
          font-family=\"sans-serif\" font-size=\"12\" fill=\"#222\">\n\
@@ -34,7 +34,7 @@ pub fn svg(all: &[Measured]) -> String {
     for measured in all {
         text(&mut svg, 12.0, y + 12.0, "start", "bold", measured.name);
         y += HEAD;
-        for (printer, nanoseconds) in measured.nanoseconds.iter().enumerate() {
+        for (printer, nanoseconds) in measured.nanoseconds[..COMPARED].iter().enumerate() {
             let (colour, weight) = if printer == OURS { (OUR_COLOUR, "bold") } else { (OTHER_COLOUR, "normal") };
             let length = nanoseconds / most * LONGEST;
             text(&mut svg, LEFT - 8.0, y + 11.0, "end", weight, PRINTERS[printer].name);

@@ -55,7 +55,7 @@ pub struct Printer {
     pub print_row: fn(&[f32], &mut Buffers) -> usize,
 }
 
-/// The crate comes first and we second.
+/// The crate comes first and we second; an earlier archive of ours comes last.
 pub const PRINTERS: &[Printer] = &[
     Printer { name: "crate", print64: crate64, print32: crate32, print_row: crate_row },
     Printer { name: "ours", print64: ours64, print32: ours32, print_row: ours_row },
@@ -65,6 +65,8 @@ pub const PRINTERS: &[Printer] = &[
     Printer { name: "fmt", print64: cpp::fmt64, print32: cpp::fmt32, print_row: cpp::fmt_row },
     #[cfg(dragonbox)]
     Printer { name: "Dragonbox", print64: cpp::dragonbox64, print32: cpp::dragonbox32, print_row: cpp::dragonbox_row },
+    #[cfg(before)]
+    Printer { name: "before", print64: before::before64, print32: before::before32, print_row: before::before_row },
 ];
 
 fn crate64(numbers: &[f64], buffers: &mut Buffers) -> usize {
@@ -97,22 +99,44 @@ fn lent(buffer: &mut dtoa::Buffer) -> (*mut u8, usize) {
     (black_box(buffer as *mut dtoa::Buffer).cast(), length)
 }
 
-fn ours64(numbers: &[f64], buffers: &mut Buffers) -> usize {
-    let (buf, len) = lent(&mut buffers.original);
-    // SAFETY: buf points to len bytes that are lent to this function alone.
-    numbers.iter().map(|number| unsafe { dtoa_format64(number.to_bits(), buf, len) }.length as usize).sum()
+/// The three functions of an archive of ours, by the names that its calls have.
+macro_rules! archive {
+    ($print64:ident, $format64:ident, $print32:ident, $format32:ident, $print_row:ident, $format_row32:ident) => {
+        pub fn $print64(numbers: &[f64], buffers: &mut Buffers) -> usize {
+            let (buf, len) = lent(&mut buffers.original);
+            // SAFETY: buf points to len bytes that are lent to this function alone.
+            numbers.iter().map(|number| unsafe { $format64(number.to_bits(), buf, len) }.length as usize).sum()
+        }
+
+        pub fn $print32(numbers: &[f32], buffers: &mut Buffers) -> usize {
+            let (buf, len) = lent(&mut buffers.original);
+            // SAFETY: as above.
+            numbers.iter().map(|number| unsafe { $format32(number.to_bits(), buf, len) }.length as usize).sum()
+        }
+
+        pub fn $print_row(numbers: &[f32], buffers: &mut Buffers) -> usize {
+            let row = black_box(&mut buffers.row);
+            // SAFETY: an f32 has the layout of its pattern, and the row's bytes are lent to this function alone.
+            unsafe { $format_row32(numbers.as_ptr().cast(), numbers.len(), row.as_mut_ptr(), row.len()) }.length as usize
+        }
+    };
 }
 
-fn ours32(numbers: &[f32], buffers: &mut Buffers) -> usize {
-    let (buf, len) = lent(&mut buffers.original);
-    // SAFETY: as above.
-    numbers.iter().map(|number| unsafe { dtoa_format32(number.to_bits(), buf, len) }.length as usize).sum()
-}
+archive!(ours64, dtoa_format64, ours32, dtoa_format32, ours_row, dtoa_format_row32);
 
-fn ours_row(numbers: &[f32], buffers: &mut Buffers) -> usize {
-    let row = black_box(&mut buffers.row);
-    // SAFETY: an f32 has the layout of its pattern, and the row's bytes are lent to this function alone.
-    unsafe { dtoa_format_row32(numbers.as_ptr().cast(), numbers.len(), row.as_mut_ptr(), row.len()) }.length as usize
+/// An earlier archive, with its functions renamed.
+#[cfg(before)]
+mod before {
+    use super::{black_box, lent, Buffers};
+    use crate::archive::Printed;
+
+    extern "C" {
+        fn before_format64(bits: u64, buf: *mut u8, len: usize) -> Printed;
+        fn before_format32(bits: u32, buf: *mut u8, len: usize) -> Printed;
+        fn before_format_row32(patterns: *const u32, count: usize, out: *mut u8, len: usize) -> Printed;
+    }
+
+    archive!(before64, before_format64, before32, before_format32, before_row, before_format_row32);
 }
 
 #[cfg(ryu)]

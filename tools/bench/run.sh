@@ -1,6 +1,8 @@
 #!/bin/sh
 # make bench: times our calls and the unchanged crate's, and those of ryu, fmt and Dragonbox where Debian's packages are installed.
 # REPORT=1 writes docs/PERFORMANCE.md and docs/performance.svg from the run.
+# BEFORE=FOLDER also times the libdtoa_c.a in that folder, an earlier one, and reports the times before and after; CHANGE says in the
+# report what lies between the two. A report without BEFORE keeps what the last one with it had to say.
 set -eu
 cd "$(dirname "$0")/../.."
 name=bench
@@ -36,6 +38,18 @@ else
     timed "ryu ${folder##*-}" '--cfg ryu --extern ryu=target/tools/libryu.rlib'
 fi
 
+before=${BEFORE:-}
+if [ -n "$before" ]; then
+    if [ ! -f "$before/libdtoa_c.a" ]; then
+        echo "bench: BEFORE is $before, and there is no libdtoa_c.a in it." >&2
+        exit 1
+    fi
+    need_program objcopy 'objcopy of the GNU binutils'
+    # both archives have the same names: the earlier one's begin with before_
+    nm -g --defined-only "$before/libdtoa_c.a" | sed -n 's/^.* T dtoa_\(.*\)$/dtoa_\1 before_\1/p' >target/tools/before.names
+    objcopy --redefine-syms=target/tools/before.names "$before/libdtoa_c.a" target/tools/libbefore.a
+fi
+
 # Compiles one of the files in C++.
 compile() { # NAME [WORDS...]
     object=$1
@@ -63,6 +77,7 @@ else
     timed "Dragonbox $version" '--cfg dragonbox -C link-arg=target/tools/dragonbox.o -C link-arg=-ldragonbox_to_chars -l stdc++'
 fi
 
+if [ -n "$before" ]; then words="$words --cfg before -L native=target/tools -l static=before"; fi
 # shellcheck disable=SC2086
 rustc --edition 2021 -C opt-level=3 --extern dtoa=target/tools/libdtoa.rlib -L "native=$library" -l static=dtoa_c $words \
     -o target/tools/bench tools/bench/main.rs
@@ -71,8 +86,23 @@ load="load before the run: $(cut -d ' ' -f 1 /proc/loadavg), on $(nproc) process
 echo "bench: $load"
 if [ -z "${REPORT:-}" ]; then exec target/tools/bench; fi
 
-target/tools/bench --table target/tools/bench.md --plot docs/performance.svg >target/tools/bench.out
+page=docs/PERFORMANCE.md
+target/tools/bench --table target/tools/bench.md ${before:+--before target/tools/before.md} --plot docs/performance.svg >target/tools/bench.out
 cat target/tools/bench.out
+sum() { sha256sum "$1/libdtoa_c.a" | cut -c1-16; }
+if [ -n "$before" ]; then
+    {
+        printf '## Before and after%s\n\n' "${CHANGE:+: $CHANGE}"
+        cat <<'END'
+Our calls of two archives, in one run with the crate's, as above.
+
+END
+        cat target/tools/before.md
+        printf '\n    %s\n    before: archive of sha256 %s\n    after: archive of sha256 %s\n' "$(date -u '+%Y-%m-%d')" "$(sum "$before")" "$(sum "$library")"
+    } >target/tools/change.md
+else
+    sed -n '/^## Before and after/,$p' "$page" >target/tools/change.md
+fi
 {
     cat <<'END'
 # Performance
@@ -82,7 +112,8 @@ cat target/tools/bench.out
 Nanoseconds per number, and in brackets the ratio to the crate dtoa 1.0.11; below 1 is faster than the crate. A printer
 prints 4,000 numbers, one in a call, into a buffer that is never cleared (ours and the crate into the same 25 bytes), then the next
 printer prints the same ones, and so on through 100,000 numbers and many rounds; the median of a printer's turns counts. The heights
-are spread evenly over -100 to 9000.
+are spread evenly over -100 to 9000. The subnormals are above zero and have 1 to 52 significant bits, in f32 1 to 23, each number of
+bits with the same chance.
 
 In the last line a turn is one text of 4,096 numbers with a space between two, and the numbers are 102,400. We print it in one
 call, into a buffer that is never cleared. The other printers print one number in a call: a Rust crate's text is pushed to a string
@@ -95,6 +126,11 @@ END
     printf '    other libraries: %s\n' "${told#, }"
     printf '    %s\n' "$load"
     printf '    %s\n' "$(tail -n 1 target/tools/bench.out)"
-} >docs/PERFORMANCE.md
-echo 'bench: wrote docs/PERFORMANCE.md and docs/performance.svg'
+    if [ -s target/tools/change.md ]; then
+        echo
+        cat target/tools/change.md
+    fi
+} >target/tools/page.md
+mv target/tools/page.md "$page"
+echo "bench: wrote $page and docs/performance.svg"
 tail -n 1 target/tools/bench.out

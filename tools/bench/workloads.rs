@@ -1,6 +1,6 @@
 //! The numbers that are printed.
 
-use crate::random::random;
+use crate::random::{random, subnormal};
 
 /// So many turns go through the numbers of a workload: too many numbers for the processor to learn by heart, few enough for its
 /// cache.
@@ -52,13 +52,15 @@ fn rows(number: impl Fn(u64) -> f32) -> Numbers {
     Numbers::Rows((0..(TURNS * ROW) as u64).map(number).collect())
 }
 
-pub fn workloads() -> [Workload; 6] {
+pub fn workloads() -> [Workload; 8] {
     [
         Workload { name: "f64, random bits", numbers: f64s(|n| f64::from_bits(random(0, n))) },
         Workload { name: "f64, -100 to 9000", numbers: f64s(height) },
         Workload { name: "f32, random bits", numbers: f32s(|n| f32::from_bits(random(0, n) as u32)) },
         Workload { name: "f32 heights, rounded to 1/64", numbers: f32s(|n| (height(n) * 64.0).round() as f32 / 64.0) },
         Workload { name: "f32 heights", numbers: f32s(|n| height(n) as f32) },
+        Workload { name: "f64 subnormals", numbers: f64s(|n| f64::from_bits(subnormal(2, n, 52))) },
+        Workload { name: "f32 subnormals", numbers: f32s(|n| f32::from_bits(subnormal(2, n, 23) as u32)) },
         Workload { name: "row of 4,096 f32 heights", numbers: rows(|n| height(n) as f32) },
     ]
 }
