@@ -1,5 +1,5 @@
 -- A pair shifted left at once, by the number of zeros above its highest bit set, is the rules' pair, shifted bit by bit. Assumes nothing.
-use mathlib.Core.Path.{_≡_, refl, sym, ap, _∙_}
+use mathlib.Core.Path.{_≡_, ap, _∙_}
 use Prim.Native.Nat.{ℕ, suc, _+_, _-_, _*_, _^_, _≤_, _<_}
 use native.Mathlib.Nat.{mul-le-mul-right, mul-lt-mul-of-pos-right, le-antisymm}
 use native.Mathlib.Omega.{arith}
@@ -22,11 +22,14 @@ use Rattle.diyfp.proofs.Standing.{kind}
 
 -- Of n bits, a shift of f by z sets the highest, and loses none.
 pub record Fills (n f z : ℕ) : Type 0 where
-  pub few : z < n
   pub top : 2 ^ (n - 1) ≤ f * 2 ^ z
   pub fits : f * 2 ^ z < 2 ^ n
 
--- So does a shift by the number of leading zeros.
+-- No two shifts do.
+one-distance : (n f y z : ℕ) → 2 ^ n ≡ 2 * 2 ^ (n - 1) → Fills n f y → Fills n f z → y ≡ z
+one-distance n f y z two p q = le-antisymm (no-further f n z y two (q .top) (p .fits)) (no-further f n y z two (p .top) (q .fits))
+
+-- A shift by the number of leading zeros does.
 fills : (n f : ℕ) → 0 < f → f < 2 ^ n → Fills n f (leadingZeros n f)
 fills n f some fits =
     let z = leadingZeros n f in
@@ -35,74 +38,77 @@ fills n f some fits =
     let all : z + suc j ≡ n = t .1 in
     let half : 2 ^ (n - 1) ≡ 2 ^ j * 2 ^ z = ap (λ (x : ℕ). 2 ^ x) (omega (arith, all)) ∙ pow-add 2 j z in
     let whole : 2 ^ n ≡ 2 ^ suc j * 2 ^ z = ap (λ (x : ℕ). 2 ^ x) (omega (arith, all)) ∙ pow-add 2 (suc j) z in
-    record {
-      few = omega (arith, all);
-      top = rw half (mul-le-mul-right (2 ^ z) (t .2));
-      fits = rw whole (mul-lt-mul-of-pos-right (t .3) (pow-pos z));
-    }
+    record { top = rw half (mul-le-mul-right (2 ^ z) (t .2)); fits = rw whole (mul-lt-mul-of-pos-right (t .3) (pow-pos z)) }
 
--- A number of leading zeros is small: a u64 holds it ..
-pub fits-u64 : (n a : ℕ) → n ≤ 64 → Fits w64 (leadingZeros n a)
-fits-u64 n a few = record { fits = omega (arith, leading-le n a) }
+-- That number is small: with a bit set, of n bits fewer than n are zeros ..
+pub few-zeros : (n f : ℕ) → 0 < f → f < 2 ^ n → leadingZeros n f < n
+few-zeros n f some fits = let t = leading-top n f some fits in omega (arith, t .1)
+
+-- .. a u64 holds it ..
+pub fits-u64 : (n f : ℕ) → n ≤ 64 → Fits w64 (leadingZeros n f)
+fits-u64 n f few = record { fits = omega (arith, leading-le n f) }
 
 -- .. and an i32.
-pub fits-i32 : (n a : ℕ) → n ≤ 64 → SFits w32 (pos (leadingZeros n a))
-fits-i32 n a few = record { sfits = omega (arith, leading-le n a) }
-
--- Two results of shifting one pair are the same.
-alone : {n : ℕ} {a r s : Pair} → 2 ^ n ≡ 2 * 2 ^ (n - 1) → Shifted n a r → Shifted n a s → r ≡ s
-alone {n} {a} {r} {s} two p q =
-    let by : p .by ≡ q .by = le-antisymm (further q p) (further p q) in
-    let f : r .f ≡ s .f = p .number ∙ ap (λ (x : ℕ). a .f * 2 ^ x) by ∙ sym (q .number) in
-    let exp : r .exp ≡ s .exp = omega (arith, p .exponent, q .exponent) in
-    λ i. record { f = f i; exp = exp i }
-  where
-    further : {r s : Pair} (p : Shifted n a r) (q : Shifted n a s) → q .by ≤ p .by
-    further p q = no-further (a .f) n (p .by) (q .by) two (omega (arith, p .top, p .number)) (omega (arith, q .fits, q .number))
+pub fits-i32 : (n f : ℕ) → n ≤ 64 → SFits w32 (pos (leadingZeros n f))
+fits-i32 n f few = record { sfits = omega (arith, leading-le n f) }
 
 -- A pair shifted left by z at once.
 pub shiftedBy : ℕ → Pair → Pair
 shiftedBy z m = record { f = m .f * 2 ^ z; exp = m .exp - z }
 
--- The plain form, one bit at a time, is one shift by the number of leading zeros.
-pub at-once : (w : Width) (m : Pair) → 0 < w .N → Shiftable w (w .N) m →
-    shifted (w .N) (w .N) m ≡ shiftedBy (leadingZeros (w .N) (m .f)) m
-unfolding shiftedBy
-at-once w m some h = alone two whole once
-  where
-    two : 2 ^ w .N ≡ 2 * 2 ^ (w .N - 1)
-    two = two-halves (w .N) some
+module _ (w : Width) (m : Pair) (some : 0 < w .N) (h : Shiftable w (w .N) m) where
+  two : 2 ^ w .N ≡ 2 * 2 ^ (w .N - 1)
+  two = two-halves (w .N) some
 
-    filled : Fills (w .N) (m .f) (leadingZeros (w .N) (m .f))
-    filled = fills (w .N) (m .f) (h .some) (h .fits)
+  -- The plain form, one bit at a time: by some distance, which fills N bits.
+  plain : Shifted (w .N) m (shifted (w .N) (w .N) m)
+  plain = shifts (w .N) (w .N) m two (h .fits) (omega (arith, mul-le-mul-right (2 ^ w .N) (h .some), two)) (h .least-exponent)
 
-    whole : Shifted (w .N) m (shifted (w .N) (w .N) m)
-    whole = shifts (w .N) (w .N) m two (h .fits) (omega (arith, mul-le-mul-right (2 ^ w .N) (h .some), two)) (h .least-exponent)
+  -- If one shift by z leaves the same significand, z is the number of leading zeros.
+  distance : (z : ℕ) → shifted (w .N) (w .N) m .f ≡ m .f * 2 ^ z → z ≡ leadingZeros (w .N) (m .f)
+  distance z is =
+      one-distance (w .N) (m .f) z (leadingZeros (w .N) (m .f)) two
+      record { top = omega (arith, plain .top, is); fits = omega (arith, plain .fits, is) }
+      (fills (w .N) (m .f) (h .some) (h .fits))
 
-    once : Shifted (w .N) m (shiftedBy (leadingZeros (w .N) (m .f)) m)
-    once =
-        record {
-          by = leadingZeros (w .N) (m .f);
-          number = refl;
-          exponent = omega (arith, filled .few, h .least-exponent);
-          top = filled .top;
-          fits = filled .fits;
-        }
+  -- It is one shift by the number of leading zeros ..
+  pub at-once : shifted (w .N) (w .N) m ≡ shiftedBy (leadingZeros (w .N) (m .f)) m
+  unfolding shiftedBy
+  at-once =
+      let by : plain .by ≡ leadingZeros (w .N) (m .f) = distance (plain .by) (plain .number) in
+      let f : shifted (w .N) (w .N) m .f ≡ m .f * 2 ^ leadingZeros (w .N) (m .f) = plain .number ∙ ap (λ (x : ℕ). m .f * 2 ^ x) by in
+      let exp : shifted (w .N) (w .N) m .exp ≡ m .exp - leadingZeros (w .N) (m .f) = omega (arith, plain .exponent, by) in
+      λ i. record { f = f i; exp = exp i }
+
+  -- .. and by no other number, one more or one less.
+  pub no-other : (z : ℕ) → shifted (w .N) (w .N) m ≡ shiftedBy z m → z ≡ leadingZeros (w .N) (m .f)
+  unfolding shiftedBy
+  no-other z is = distance z (ap (λ (r : Pair). r .f) is)
 
 -- The shift as the code does it.
 module _ {w : Width} {f : ℕ} {e : ℤ} (small : Small w) (p : StandsIn w (Shiftable w (w .N)) f e) where
-  pub filled : Fills (w .N) f (leadingZeros (w .N) f)
-  filled = fills (w .N) f (rw (p .stands .significand) (p .kind .some)) (rw (p .stands .significand) (p .kind .fits))
+  some : 0 < f
+  some = omega (arith, p .stands .significand, p .kind .some)
+
+  within : f < 2 ^ w .N
+  within = omega (arith, p .stands .significand, p .kind .fits)
+
+  few : leadingZeros (w .N) f < w .N
+  few = few-zeros (w .N) f some within
 
   -- The distance, cast to an i32.
   same-distance : toZ w32 (leadingZeros (w .N) f) ≡ pos (leadingZeros (w .N) f)
-  same-distance = toZ-pos w32 (omega (arith, filled .few, small .sum))
+  same-distance = toZ-pos w32 (omega (arith, few, small .sum))
 
   -- An i32 holds the exponent's fall ..
   pub falls : SFits w32 (read e -ℤ toZ w32 (leadingZeros (w .N) f))
   falls =
       rw same-distance
-      (lowered small (p .stands) (p .kind .most-exponent) (leadingZeros (w .N) f) (omega (arith, filled .few)) .fits)
+      (lowered small (p .stands) (p .kind .most-exponent) (leadingZeros (w .N) f) (omega (arith, few)) .fits)
+
+  -- .. a word of N bits the significand ..
+  pub fits : f * 2 ^ leadingZeros (w .N) f < 2 ^ w .N
+  fits = fills (w .N) f some within .fits
 
   -- .. and the pair is the rules'.
   pub becomes : {g : ℕ} → g ≡ f * 2 ^ leadingZeros (w .N) f →
@@ -111,5 +117,5 @@ module _ {w : Width} {f : ℕ} {e : ℤ} (small : Small w) (p : StandsIn w (Shif
   becomes is m s =
       let h = kind p m s in
       rw (at-once w m (small .some) h, ← s .significand, same-distance)
-      (beside small s (h .most-exponent) (leadingZeros (w .N) f) (omega (arith, filled .few))
-      (omega (arith, filled .few, h .least-exponent)) _ is)
+      (beside small s (h .most-exponent) (leadingZeros (w .N) f) (omega (arith, few))
+      (omega (arith, few, h .least-exponent)) _ is)

@@ -3,7 +3,7 @@ use native.Mathlib.Omega.{arith}
 use lib.Dec.{lit≤}
 use Rattle.rules.specs.Width.{w64}
 use Rattle.powers.proofs.Small.{small64}
-use Rattle.diyfp.proofs.Shifting.{fits-u64, fits-i32, filled, falls, becomes}
+use Rattle.diyfp.proofs.Shifting.{fits-u64, fits-i32, few-zeros, falls, fits, becomes}
 use Rattle.diyfp.proofs.binary64.DiyFp64.normalize.Statement.{statement}
 use Rattle.diyfp.proofs.binary64.DiyFp64.normalize.Tie as tie
 
@@ -12,7 +12,9 @@ cast-t3 c = fits-u64 64 _ (lit≤ tt)
 
 shl-t4 : tie.Need-shl-t4
 unfolding w64
-shl-t4 c = omega (arith, filled small64 (c .before .before .pre) .few)
+shl-t4 c =
+    let p = c .before .before .pre in
+    few-zeros 64 _ (omega (arith, p .stands .significand, p .kind .some)) (omega (arith, p .stands .significand, p .kind .fits))
 
 cast-t5 : tie.Need-cast-t5
 cast-t5 c = fits-i32 64 _ (lit≤ tt)
@@ -25,7 +27,7 @@ returns : tie.Need-returns
 unfolding w64
 returns c =
     let p = c .before .before .before .before .pre in
-    becomes small64 p (omega (arith, filled small64 p .fits))
+    becomes small64 p (omega (arith, fits small64 p))
 
 pub normalize-spec : {M : Type 1} → statement M
 normalize-spec = tie.close (tie.spec cast-t3 shl-t4 cast-t5 sub-t6 returns)
