@@ -1,4 +1,4 @@
--- Worked examples that the checker computes: layouts, texts, scaled numbers, readings and answers, and rows by themselves. Assumes nothing.
+-- Worked examples that the checker computes: layouts, texts, scaled numbers and answers, and rows by themselves. Assumes nothing.
 use Prim.Native.Nat.{ℕ}
 use Prim.Native.String.{String}
 use mathlib.Core.Bool.{Bool, true, false, _&&_}
@@ -34,10 +34,6 @@ pub data Example : Type 0 where
   stands : Width → ℕ → ℕ → ℕ → ℕ → ℤ → ℕ → ℕ → ℤ → Example
   -- a pattern's H, L, W and x
   scales : Width → ℕ → ℕ → ℕ → ℕ → ℕ → Example
-  -- a text's exact reading: the nearest pattern, with its sign
-  reads : Width → String → ℕ → Example
-  -- a text that says nothing
-  refuses-text : String → Example
   -- a pattern that its own text reads as
   comes-back : Width → ℕ → Example
   -- an entry's number and length at a pattern, in a buffer of so many bytes 42, and the bytes that it puts before them
@@ -64,12 +60,6 @@ is-pattern w v notANumber = false
 is-pattern w v (infinite s) = false
 is-pattern w v (Reading.number s n d) = eqb (withSign w s (nearest w n d)) v
 
-is-refused : Exact → Bool
-is-refused refused = true
-is-refused notANumber = false
-is-refused (infinite s) = false
-is-refused (Reading.number s n d) = false
-
 all-same : List (List ℕ) → List (List ℕ) → Bool
 all-same [] [] = true
 all-same [] (u ∷ us) = false
@@ -94,8 +84,6 @@ holds (scales w v h l m x) =
     && eqb (scaled w (magnitude w v) .L) l
     && eqb (scaled w (magnitude w v) .W) m
     && eqb (scaled w (magnitude w v) .x) x
-holds (reads w s v) = is-pattern w v (exact (bytes s))
-holds (refuses-text s) = is-refused (exact (bytes s))
 holds (comes-back w v) = is-pattern w v (exact (text w v))
 holds (answers call w v room n len s) =
     eqb (answer call w v room .number) n
@@ -187,30 +175,6 @@ list =
     ∷ comes-back w64 0x0010000000000000
     ∷ comes-back w64 0xffefffffffffffff
     ∷ comes-back w64 0x0000000000000000
-    -- exact reading: one half of the smallest is a tie that goes to zero, and more is not; so for 2^24 + 1; above the largest; zeros by rounding
-    ∷ reads w64 "2.4703282292062327e-324" 0x0000000000000000
-    ∷ reads w64 "2.4703282292062328e-324" 0x0000000000000001
-    ∷ reads w32 "16777217" 0x4b800000
-    ∷ reads w32 "16777219" 0x4b800002
-    ∷ reads w64 "0.1" 0x3fb999999999999a
-    ∷ reads w32 "0.1" 0x3dcccccd
-    ∷ reads w64 "1e9999" 0x7fefffffffffffff
-    ∷ reads w64 "-1e-9999" 0x8000000000000000
-    ∷ reads w32 "-0" 0x80000000
-    ∷ reads w32 "1.5e-1" 0x3e19999a
-    ∷ refuses-text ""
-    ∷ refuses-text "-"
-    ∷ refuses-text ".5"
-    ∷ refuses-text "5."
-    ∷ refuses-text "+1"
-    ∷ refuses-text "1e"
-    ∷ refuses-text "1e-"
-    ∷ refuses-text "1e+5"
-    ∷ refuses-text "1e12345"
-    ∷ refuses-text "1.e5"
-    ∷ refuses-text "1 "
-    ∷ refuses-text "--1"
-    ∷ refuses-text "-NaN"
     -- a printed text, a buffer too short, a refused infinity, and both at once
     ∷ answers every w32 0xbf800000 27 0 4 "-1.0"
     ∷ answers finiteOnly w64 0xbec2c86d907ec0e7 25 0 25 "-0.0000022390987659202535"
@@ -222,7 +186,7 @@ list =
     ∷ []
 
 pub examples : T (all list)
-unfolding all holds equal buffer joins is-pattern is-refused list bytes countUpTo count numeral plain raised significands32 exponents32 significands64 exponents64 w32 w64 off negative biased significand allOnes special magnitude shifted upper below lower value leastTen jRaised j k index P product scaled D above under placesUnder places c first closer falls decimal zeros exponent scientific byRule layout shown signed text isDigit extended powered exponentMore exponentFirst exponentSign decimalsMore decimalsFirst wholeMore unsigned same withFraction magnitudeOf exact infinity top low size unbounded nearest withSign refuses number answering leaving answer after
+unfolding all holds equal buffer joins is-pattern list bytes countUpTo count numeral plain raised significands32 exponents32 significands64 exponents64 w32 w64 off negative biased significand allOnes special magnitude shifted upper below lower value leastTen jRaised j k index P product scaled D above under placesUnder places c first closer falls decimal zeros exponent scientific byRule layout shown signed text isDigit extended powered exponentMore exponentFirst exponentSign decimalsMore decimalsFirst wholeMore unsigned same withFraction magnitudeOf exact infinity top low size unbounded nearest withSign refuses number answering leaving answer after
 examples = tt
 
 pub rows : List Example

@@ -11,6 +11,7 @@ pub mod Digits
 pub mod Layout
 pub mod Text
 pub mod Reading
+pub mod Reader
 pub mod Midpoints
 pub mod Answer
 pub mod Row

@@ -117,9 +117,10 @@ exact (b ∷ bs) =
 unfoldable pub infinity : Width → ℕ
 infinity w = allOnes w * 2 ^ w .S
 
--- The top rule: the largest pattern that a fraction reads as is the largest finite one, whatever lies above it.
+-- The top rule: the largest pattern that a fraction reads as is the infinity. It counts as the number that would come next, so a fraction reads
+-- as the infinity from half a step above the largest finite number on.
 unfoldable pub top : Width → ℕ
-top w = infinity w - 1
+top w = infinity w
 
 -- A pattern's magnitude, as a number over 2^off.
 unfoldable pub worth : Width → ℕ → ℕ

@@ -1,4 +1,4 @@
--- The nearest pattern up to the top is what the toolchain's account of IEEE 754, `lib.Ieee`, rounds to. Assumes nothing.
+-- The nearest pattern is what the toolchain's account of IEEE 754, `lib.Ieee`, rounds to. Assumes nothing.
 use mathlib.Core.Bool.{Bool, true, false, not, cond}
 use mathlib.Core.Logic.{⊎-elim}
 use mathlib.Core.Path.{_≡_, refl, sym, ap, _∙_}
@@ -97,8 +97,9 @@ module _ (f : Format) (w : Width) (g : Agree f w) where
     unfolding kept cut
     round-units = round-is f s n d ∙ rw (low-is f w g, g .digits)
 
-    -- `round` writes the nearest pattern without a top, and no more than the infinity.
-    pub round-bits : toBits f (round f s n d) ≡ withSign w s (min (infinity w) (unbounded w n d))
+    -- `round` writes the nearest pattern, an infinity too.
+    pub round-bits : toBits f (round f s n d) ≡ withSign w s (nearest w n d)
+    unfolding nearest top
     round-bits =
         rw round-units
         (⊎-elim
@@ -112,26 +113,11 @@ module _ (f : Format) (w : Width) (g : Agree f w) where
         rw (e, overflows f s _ _ q) (infinity-bits s))
         (which (unbounded w n d) (infinity w)))
 
-    -- Up to the top that is the nearest pattern.
-    pub round-nearest : unbounded w n d ≤ top w → toBits f (round f s n d) ≡ withSign w s (nearest w n d)
-    unfolding nearest top
-    round-nearest h = round-bits ∙ ap (withSign w s) (omega arith)
-
-    -- Beyond the top it is the infinity.
-    pub round-beyond : top w < unbounded w n d → toBits f (round f s n d) ≡ withSign w s (infinity w)
-    unfolding top
-    round-beyond h = round-bits ∙ ap (withSign w s) (omega arith)
-
--- There the nearest pattern is the top, the largest finite number.
-pub nearest-beyond : (w : Width) (n d : ℕ) → top w < unbounded w n d → nearest w n d ≡ top w
-unfolding nearest
-nearest-beyond w n d h = omega arith
-
 -- So it is at both widths.
-pub round32 : (n d : ℕ) → toBits binary32 (round binary32 false n d) ≡ min (infinity w32) (unbounded w32 n d)
+pub round32 : (n d : ℕ) → toBits binary32 (round binary32 false n d) ≡ nearest w32 n d
 unfolding withSign
 round32 n d = round-bits binary32 w32 agree32 false n d
 
-pub round64 : (n d : ℕ) → toBits binary64 (round binary64 false n d) ≡ min (infinity w64) (unbounded w64 n d)
+pub round64 : (n d : ℕ) → toBits binary64 (round binary64 false n d) ≡ nearest w64 n d
 unfolding withSign
 round64 n d = round-bits binary64 w64 agree64 false n d

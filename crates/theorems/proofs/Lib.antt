@@ -22,6 +22,7 @@ pub mod Rounding
 pub mod Unbounded
 pub mod Nearest
 pub mod Order
+pub mod Halfway
 pub mod Midpoints
 pub mod Neighbours
 pub mod ExactText

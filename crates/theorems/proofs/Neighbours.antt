@@ -13,7 +13,7 @@ use Rattle.laws.proofs.Powers.{two-halves}
 use Rattle.rules.specs.Width.{Width}
 use Rattle.rules.specs.Pattern.{Pair, biased, allOnes, magnitude}
 use Rattle.rules.specs.Boundaries.{below}
-use Rattle.rules.specs.Reading.{infinity, top, worth}
+use Rattle.rules.specs.Reading.{infinity, worth}
 use Rattle.rules.specs.Midpoints.{midpointBelow, midpointAbove}
 use Rattle.theorems.proofs.Readable.{Readable}
 use Rattle.theorems.proofs.Units.{unitsOf, placed}
@@ -136,8 +136,8 @@ module _ (w : Width) (r : Readable w) (finite : 2 ≤ allOnes w) where
       let plain = no-sign w r (suc v) (omega arith) in
       worth-next w r v (omega (arith, bare-is w r v (omega arith))) ∙ ap (λ (x : ℕ). worth w v + 2 ^ x) (last-exponent f small)
 
-  pub equal-step : worth w (infinity w) + worth w (top w - 1) ≡ 2 * worth w (top w)
-  unfolding infinity top
+  pub equal-step : worth w (infinity w) + worth w (infinity w - 1 - 1) ≡ 2 * worth w (infinity w - 1)
+  unfolding infinity
   equal-step =
       let h = 2 ^ w .S in
       let b = allOnes w - 1 in

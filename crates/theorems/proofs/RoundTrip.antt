@@ -4,8 +4,8 @@ use mathlib.Core.Bool.{Bool, not}
 use mathlib.Core.List.{List}
 use mathlib.Core.Logic.{_⊎_, inl, inr, ⊎-elim}
 use mathlib.Core.Path.{_≡_, refl, sym, ap, ap₂, _∙_}
-use Prim.Native.Nat.{ℕ, zero, suc, _+_, _-_, _*_, _/_, _^_, _≤_, _<_, min}
-use native.Mathlib.Nat.{mod-lt, lt-of-mul-lt-mul-right, mul-lt-mul-of-pos-right, mul-le-mul-right, eq-or-lt-of-le, le-of-lt, min-eq-right}
+use Prim.Native.Nat.{ℕ, zero, suc, _+_, _-_, _*_, _/_, _^_, _≤_, _<_}
+use native.Mathlib.Nat.{mod-lt, lt-of-mul-lt-mul-right, mul-lt-mul-of-pos-right, mul-le-mul-right, eq-or-lt-of-le}
 use native.Mathlib.Omega.{arith}
 use lib.Dec.{T, eqb, eqb→eq, T-not}
 use lib.Ieee.{Format, round, ofBits, toBits}
@@ -214,7 +214,7 @@ rounded f w q g p v bound ordinary s n d says =
     let reads : unbounded w n d ≡ bare w v = ap₂ (unbounded w) same-n same-d ∙ r .reads in
     let bits : toBits f (round f s n d) ≡ v =
     round-bits f w g s n d
-    ∙ ap₂ (withSign w) same-s (ap (min (infinity w)) reads ∙ min-eq-right (le-of-lt (bare-finite w q p v ordinary)))
+    ∙ ap₂ (withSign w) same-s (up-to-top w n d (bare w v) reads (top-holds w q p v ordinary))
     ∙ rejoined w (p .readable) v bound in
     sym (ofBits-toBits f (round f s n d) (round-fits f s n d)) ∙ ap (ofBits f) bits
 
