@@ -27,6 +27,8 @@ pub mod Midpoints
 pub mod Neighbours
 pub mod ExactText
 pub mod RoundTrip
+pub mod ReadLength
+pub mod ReadBack
 pub mod Decoding
 pub mod Signs
 pub mod Ieee

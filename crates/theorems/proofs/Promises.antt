@@ -7,10 +7,11 @@ use lib.Dec.{T}
 use lib.Ieee.{binary32, binary64, round, ofBits}
 use lib.ListN.{length, getD}
 use Rattle.rules.specs.Width.{Width, w32, w64}
-use Rattle.rules.specs.Pattern.{special, magnitude}
+use Rattle.rules.specs.Pattern.{significand, special, magnitude}
 use Rattle.rules.specs.Digits.{decimal}
 use Rattle.rules.specs.Text.{text}
 use Rattle.rules.specs.Reading.{number, exact, IsNearest, withSign, ReadsAs}
+use Rattle.rules.specs.Reader.{reading}
 use Rattle.rules.specs.Row.{row, cut}
 use Rattle.theorems.proofs.Widths.{w16}
 use Rattle.theorems.proofs.Scale.{finite}
@@ -20,6 +21,7 @@ use Rattle.theorems.proofs.TextLength.{Within, text-length}
 use Rattle.theorems.proofs.Decoding.{agree32, agree64}
 use Rattle.theorems.proofs.Rows.{FinitePatterns, cut-row, row-restored, same-row}
 use Rattle.theorems.proofs.RoundTrip.{Inside, inside, restored, only-restored, rounded, distinct}
+use Rattle.theorems.proofs.ReadBack.{Pattern, read-back}
 
 -- A finite pattern other than zero.
 pub record Ordinary (w : Width) (v : ℕ) : Type 0 where
@@ -73,6 +75,15 @@ pub only64 : (v : ℕ) → v < 2 ^ 64 → T (not (special w64 v)) → (s : Bool)
     IsNearest w64 n d u → withSign w64 s u ≡ v
 unfolding w64
 only64 v bound finite = only-restored w64 16 printable64 v finite bound
+
+-- The text of every pattern but NaN is read as the pattern.
+pub read-back32 : (v : ℕ) → v < 2 ^ 32 → (T (special w32 v) → significand w32 v ≡ 0) → reading w32 (text w32 v) ≡ Pattern v
+unfolding w32
+read-back32 = read-back w32 8 printable32
+
+pub read-back64 : (v : ℕ) → v < 2 ^ 64 → (T (special w64 v) → significand w64 v ≡ 0) → reading w64 (text w64 v) ≡ Pattern v
+unfolding w64
+read-back64 = read-back w64 16 printable64
 
 -- Two different finite patterns never have the same text.
 pub distinct32 : (u v : ℕ) → u < 2 ^ 32 → v < 2 ^ 32 → T (not (special w32 u)) → T (not (special w32 v)) → text w32 u ≡ text w32 v → u ≡ v
