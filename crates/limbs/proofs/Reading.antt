@@ -1,0 +1,95 @@
+-- Digits read one by one into limbs. Assumes nothing.
+use mathlib.Core.Path.{_≡_, refl, sym, ap, _∙_}
+use mathlib.Core.List.{List, [], _∷_}
+use Prim.Native.Nat.{ℕ, suc, _+_, _-_, _*_, _^_, _≤_, _<_}
+use native.Mathlib.Omega.{arith}
+use lib.Dec.{leb, ltb, eqb, le→leb, leb→le, lt→ltb, ltb→lt, eqb→eq}
+use lib.ListN.{getD, length, drop, drop-of-length-le}
+use lib.Seq.{drop-cons}
+use Rattle.laws.proofs.Branches.{either, taken, and-both, and-left, and-right}
+use Rattle.rules.specs.Bytes.{point}
+use Rattle.rules.specs.Reading.{isDigit, extended}
+use Rattle.scan.specs.Mantissa.{mantissa}
+use Rattle.limbs.specs.Total.{total, room, Becomes}
+use Rattle.limbs.proofs.Low.{same-room}
+
+-- More digits make no smaller number.
+pub grows : (a : ℕ) (t : List ℕ) → a ≤ mantissa a t
+unfolding mantissa extended
+grows a [] = omega arith
+grows a (b ∷ bs) =
+    either (λ (n : ℕ). a ≤ n) (isDigit b) (λ _. omega (arith, grows (extended a b) bs))
+    (λ _. either (λ (n : ℕ). a ≤ n) (eqb b point) (λ _. grows a bs) (λ _. omega arith))
+
+-- A digit is put behind.
+digit : (a b : ℕ) (bs : List ℕ) → 48 ≤ b → b ≤ 57 → mantissa a (b ∷ bs) ≡ mantissa (a * 10 + (b - 48)) bs
+unfolding mantissa isDigit extended
+digit a b bs least most = taken _ (isDigit b) (and-both (leb 48 b) (ltb b 58) (le→leb 48 b least) (lt→ltb b 58 (omega arith))) refl
+
+-- A point is passed.
+at-point : (a b : ℕ) (bs : List ℕ) → b ≡ 46 → mantissa a (b ∷ bs) ≡ mantissa a bs
+unfolding mantissa isDigit
+at-point a b bs e = rw e
+
+-- Any other byte ends the digits.
+ends : (a b : ℕ) (bs : List ℕ) → (48 ≤ b → b ≤ 57 → ⊥) → (b ≡ 46 → ⊥) → mantissa a (b ∷ bs) ≡ a
+unfolding mantissa isDigit
+ends a b bs no-digit no-point =
+    either (λ (n : ℕ). n ≡ a) (isDigit b)
+    (λ t. absurd (no-digit (leb→le 48 b (and-left (leb 48 b) (ltb b 58) t)) (omega (arith, ltb→lt b 58 (and-right (leb 48 b) (ltb b 58) t)))))
+    (λ _. either (λ (n : ℕ). n ≡ a) (eqb b point) (λ t. absurd (no-point (eqb→eq b 46 t))) (λ _. refl))
+
+-- The digits before the place i are in a, and those behind it are still to come.
+pub record Read (l text : List ℕ) (from : ℕ) (a : List ℕ) (i : ℕ) : Type 0 where
+  pub within : i ≤ length text
+  pub same : length a ≡ length l
+  pub rest : mantissa (total a) (drop i text) ≡ mantissa 0 (drop from text)
+
+-- At first none.
+pub begin : (l text : List ℕ) (from : ℕ) → from ≤ length text → total l ≡ 0 → Read l text from l from
+begin l text from within e = record { within = within; same = refl; rest = rw e }
+
+module _ {l text : List ℕ} {from : ℕ} {a : List ℕ} {i : ℕ} (r : Read l text from a i) (more : i < length text) where
+  abbrev pub here : ℕ
+  here = getD text i 0
+
+  -- The byte at the place, and those behind it.
+  next : mantissa (total a) (here ∷ drop (suc i) text) ≡ mantissa 0 (drop from text)
+  next = rw (← drop-cons text i 0 more) (r .rest)
+
+  -- A digit has room.
+  pub fits : 48 ≤ here → here ≤ 57 → mantissa 0 (drop from text) < room l → total a * 10 + (here - 48) < room a
+  fits least most holds =
+      omega (
+        arith,
+        grows (total a * 10 + (here - 48)) (drop (suc i) text),
+        digit (total a) here (drop (suc i) text) least most,
+        next,
+        same-room a l (r .same),
+      )
+
+  -- Behind a digit.
+  pub past-digit : (b : List ℕ) → 48 ≤ here → here ≤ 57 → Becomes a b (total a * 10 + (here - 48)) → Read l text from b (suc i)
+  past-digit b least most done =
+      record {
+        within = more;
+        same = done .same ∙ r .same;
+        rest = rw (done .is) (sym (digit (total a) here (drop (suc i) text) least most) ∙ next);
+      }
+
+  -- Behind a point.
+  pub past-point : here ≡ 46 → Read l text from a (suc i)
+  past-point e =
+      record { within = more; same = r .same; rest = sym (at-point (total a) here (drop (suc i) text) e) ∙ next }
+
+  -- At any other byte.
+  pub stopped : (48 ≤ here → here ≤ 57 → ⊥) → (here ≡ 46 → ⊥) → Becomes l a (mantissa 0 (drop from text))
+  stopped no-digit no-point =
+      record { same = r .same; is = sym (ends (total a) here (drop (suc i) text) no-digit no-point) ∙ next }
+
+-- At the text's end.
+pub finished : {l text : List ℕ} {from : ℕ} {a : List ℕ} {i : ℕ} → Read l text from a i → length text ≤ i → Becomes l a (mantissa 0 (drop from text))
+unfolding mantissa
+finished {l} {text} {from} {a} {i} r all =
+    let none : drop i text ≡ [] = drop-of-length-le text all in
+    record { same = r .same; is = rw none at (r .rest) }

@@ -1,0 +1,2 @@
+pub mod Total
+pub mod Stands

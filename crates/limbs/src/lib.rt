@@ -1,0 +1,116 @@
+// Whole numbers of many digits, as limbs of 32 bits, the lowest first, and how two of them are ordered.
+ghost use mathlib.Core.Path.{_≡_};
+ghost use Prim.Native.Nat.{_+_, _*_, _/_, _^_, _<_, _≤_};
+ghost use lib.ListN.{length, drop};
+ghost use Rattle.scan.specs.Mantissa.{mantissa};
+ghost use Rattle.limbs.specs.Total.{total, room, Becomes};
+ghost use Rattle.limbs.specs.Stands.{Stands};
+
+// How a number stands to another.
+pub enum Order {
+    Below,
+    Equal,
+    Above,
+}
+
+// a * m + add, in the place of a.
+fn mul_add(a: &mut [u32], m: u32, add: u32)
+    requires { ⌜ total (now a) * m + add < room (now a) ⌝ }
+    ensures { λ _. ⌜ Becomes (now (a .entry)) (now (a .exit)) (total (now (a .entry)) * m + add) ⌝ }
+{
+    let mut carry: u64 = add as u64;
+    let mut i: usize = 0;
+    while i < a.len() {
+        let t = (a[i] as u64) * (m as u64) + carry;
+        a[i] = (t % 4294967296) as u32;
+        carry = t / 4294967296;
+        i += 1;
+    }
+}
+
+// 5^n, which fits.
+fn five_power(n: u32) -> u32
+    requires { ⌜ n < 13 ⌝ }
+    ensures { λ r. ⌜ r ≡ 5 ^ n ⌝ }
+{
+    let mut r: u32 = 1;
+    let mut i: u32 = 0;
+    while i < n {
+        r *= 5;
+        i += 1;
+    }
+    r
+}
+
+// a * 5^n, thirteen fives at a time.
+fn times_fives(a: &mut [u32], n: u32)
+    requires { ⌜ total (now a) * 5 ^ n < room (now a) ⌝ }
+    ensures { λ _. ⌜ Becomes (now (a .entry)) (now (a .exit)) (total (now (a .entry)) * 5 ^ n) ⌝ }
+{
+    let mut left = n;
+    while 13 <= left {
+        mul_add(a, 1220703125, 0);
+        left -= 13;
+    }
+    mul_add(a, five_power(left), 0);
+}
+
+// a * 5^fives * 2^twos, of fewer twos than a limb has.
+fn scale(a: &mut [u32], fives: u32, twos: u32)
+    requires { ⌜ twos < 32 ⌝ }
+    requires { ⌜ total (now a) * 5 ^ fives * 2 ^ twos < room (now a) ⌝ }
+    ensures { λ _. ⌜ Becomes (now (a .entry)) (now (a .exit)) (total (now (a .entry)) * 5 ^ fives * 2 ^ twos) ⌝ }
+{
+    times_fives(a, fives);
+    mul_add(a, 1 << twos, 0);
+}
+
+// The number m, into limbs that are all 0.
+fn load(a: &mut [u32], m: u64)
+    requires { ⌜ total (now a) ≡ 0 ⌝ }
+    requires { ⌜ 2 ≤ length (now a) ⌝ }
+    ensures { λ _. ⌜ Becomes (now (a .entry)) (now (a .exit)) m ⌝ }
+{
+    a[0] = (m % 4294967296) as u32;
+    a[1] = (m / 4294967296) as u32;
+}
+
+// The number that a text's digits make, into limbs that are all 0.
+fn load_digits(a: &mut [u32], text: &[u8], from: usize)
+    requires { ⌜ (total (now a) ≡ 0) × (from ≤ length (now text)) × (mantissa 0 (drop from (now text)) < room (now a)) ⌝ }
+    ensures { λ _. ⌜ Becomes (now (a .entry)) (now (a .exit)) (mantissa 0 (drop from (now (text .entry)))) ⌝ }
+{
+    let mut i = from;
+    while i < text.len() {
+        let b = text[i];
+        if b'9' < b {
+            return;
+        }
+        if b'0' <= b {
+            mul_add(a, 10, (b - b'0') as u32);
+        } else if b != b'.' {
+            return;
+        }
+        i += 1;
+    }
+}
+
+// How a stands to b, by the highest limb in which they differ.
+fn compare(a: &[u32], b: &[u32]) -> Order
+    requires { ⌜ length (now a) ≡ length (now b) ⌝ }
+    ensures { λ r. ⌜ Stands r (total (now (a .entry))) (total (now (b .entry))) ⌝ }
+{
+    let mut i: usize = a.len();
+    while 0 < i {
+        i -= 1;
+        let x = a[i];
+        let y = b[i];
+        if x < y {
+            return Order::Below;
+        }
+        if y < x {
+            return Order::Above;
+        }
+    }
+    Order::Equal
+}
