@@ -4,3 +4,6 @@ pub mod Fives
 pub mod Ordered
 pub mod Parts
 pub mod Reading
+pub mod Scaled
+pub mod Width
+pub mod Standing

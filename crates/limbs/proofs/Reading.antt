@@ -2,9 +2,11 @@
 use mathlib.Core.Path.{_≡_, refl, sym, ap, _∙_}
 use mathlib.Core.List.{List, [], _∷_}
 use Prim.Native.Nat.{ℕ, suc, _+_, _-_, _*_, _^_, _≤_, _<_}
+use native.Mathlib.Nat.{mul-suc, mul-le-mul-left, mul-le-mul-right}
 use native.Mathlib.Omega.{arith}
 use lib.Dec.{leb, ltb, eqb, le→leb, leb→le, lt→ltb, ltb→lt, eqb→eq}
-use lib.ListN.{getD, length, drop, drop-of-length-le}
+use lib.ListN.{getD, length, drop, length-drop, drop-of-length-le}
+use lib.Pow.{pow-add, pow-pos}
 use lib.Seq.{drop-cons}
 use Rattle.laws.proofs.Branches.{either, taken, and-both, and-left, and-right}
 use Rattle.rules.specs.Bytes.{point}
@@ -93,3 +95,23 @@ unfolding mantissa
 finished {l} {text} {from} {a} {i} r all =
     let none : drop i text ≡ [] = drop-of-length-le text all in
     record { same = r .same; is = rw none at (r .rest) }
+
+-- A byte adds four bits at most.
+digits-bits : (a : ℕ) (t : List ℕ) → mantissa a t < suc a * 2 ^ (4 * length t)
+unfolding mantissa isDigit extended
+digits-bits a [] = omega arith
+digits-bits a (b ∷ bs) =
+    let w = 2 ^ (4 * length bs) in
+    let some : 1 ≤ w = pow-pos (4 * length bs) in
+    rw (mul-suc, pow-add)
+    (either (λ (n : ℕ). n < suc a * (w * 16)) (isDigit b)
+    (λ t.
+    let least : suc (extended a b) ≤ suc a * 16 = omega (arith, ltb→lt b 58 (and-right (leb 48 b) (ltb b 58) t)) in
+    omega (arith, digits-bits (extended a b) bs, mul-le-mul-right w least))
+    (λ _.
+    either (λ (n : ℕ). n < suc a * (w * 16)) (eqb b point) (λ _. omega (arith, digits-bits a bs))
+    (λ _. omega (arith, mul-le-mul-left (suc a) some))))
+
+-- Digits from a place on take four bits for each byte.
+pub digits-width : (t : List ℕ) (from : ℕ) → mantissa 0 (drop from t) < 2 ^ (4 * (length t - from))
+digits-width t from = rw (← length-drop from t) (omega (arith, digits-bits 0 (drop from t)))

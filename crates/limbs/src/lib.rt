@@ -1,9 +1,9 @@
 // Whole numbers of many digits, as limbs of 32 bits, the lowest first, and how two of them are ordered.
 ghost use mathlib.Core.Path.{_≡_};
-ghost use Prim.Native.Nat.{_+_, _*_, _/_, _^_, _<_, _≤_};
+ghost use Prim.Native.Nat.{_+_, _-_, _*_, _/_, _^_, _<_, _≤_};
 ghost use lib.ListN.{length, drop};
 ghost use Rattle.scan.specs.Mantissa.{mantissa};
-ghost use Rattle.limbs.specs.Total.{total, room, Becomes};
+ghost use Rattle.limbs.specs.Total.{total, room, Becomes, Fits, Sides};
 ghost use Rattle.limbs.specs.Stands.{Stands};
 
 // How a number stands to another.
@@ -113,4 +113,95 @@ fn compare(a: &[u32], b: &[u32]) -> Order
         }
     }
     Order::Equal
+}
+
+// The number that a text's digits make, times 5^fives * 2^twos, into limbs that are all 0.
+fn put_digits(a: &mut [u32], text: &[u8], from: usize, fives: u32, twos: u32)
+    requires { ⌜ (twos < 32) × (from ≤ length (now text)) × Fits (now a) (mantissa 0 (drop from (now text))) fives twos ⌝ }
+    ensures { λ _. ⌜ Becomes (now (a .entry)) (now (a .exit)) (mantissa 0 (drop from (now (text .entry))) * 5 ^ fives * 2 ^ twos) ⌝ }
+{
+    load_digits(a, text, from);
+    scale(a, fives, twos);
+}
+
+// The number m, times 5^fives * 2^twos, into limbs that are all 0.
+fn put_number(a: &mut [u32], m: u64, fives: u32, twos: u32)
+    requires { ⌜ (twos < 32) × (2 ≤ length (now a)) × Fits (now a) m fives twos ⌝ }
+    ensures { λ _. ⌜ Becomes (now (a .entry)) (now (a .exit)) (m * 5 ^ fives * 2 ^ twos) ⌝ }
+{
+    load(a, m);
+    scale(a, fives, twos);
+}
+
+// How the products stand, each in limbs that are all 0. Of the twos whole limbs are left out below, and stay 0.
+fn settled(
+    a: &mut [u32],
+    b: &mut [u32],
+    text: &[u8],
+    from: usize,
+    fives: u32,
+    up: u32,
+    m: u64,
+    mfives: u32,
+    down: u32,
+) -> Order
+    requires { ⌜ (from ≤ length (now text)) × Sides (now a) (now b) (mantissa 0 (drop from (now text))) fives up m mfives down ⌝ }
+    ensures { λ r. ⌜ Stands r (mantissa 0 (drop from (now (text .entry))) * 5 ^ fives * 2 ^ up) (m * 5 ^ mfives * 2 ^ down) ⌝ }
+{
+    let first = (up / 32) as usize;
+    let second = (down / 32) as usize;
+    put_digits(&mut a[first..], text, from, fives, up % 32);
+    put_number(&mut b[second..], m, mfives, down % 32);
+    compare(a, b)
+}
+
+// By how much x is over y, or 0.
+fn over(x: u32, y: u32) -> u32
+    ensures { λ r. ⌜ r ≡ x - y ⌝ }
+{
+    if x < y {
+        return 0;
+    }
+    x - y
+}
+
+// A number of this many bits, times 5^fives * 2^twos, has no more than these: 5^3 is below 2^7.
+fn bits(width: u32, fives: u32, twos: u32) -> u32
+    requires { ⌜ (width ≤ 256) × (fives ≤ 400) × (twos ≤ 2500) ⌝ }
+    ensures { λ r. ⌜ r ≡ width + 7 * (fives / 3 + 1) + twos ⌝ }
+{
+    width + 7 * (fives / 3 + 1) + twos
+}
+
+// How a text's digits, as one number, times 5^fives * 2^twos stand to m * 5^mfives * 2^mtwos. The twos that both have are left out.
+pub fn against(
+    text: &[u8],
+    from: usize,
+    fives: u32,
+    twos: u32,
+    m: u64,
+    mfives: u32,
+    mtwos: u32,
+) -> Order
+    requires { ⌜ (from ≤ length (now text)) × (length (now text) ≤ 64) × (fives ≤ 320) × (mfives ≤ 400) × (twos ≤ 1400) × (mtwos ≤ 2500) ⌝ }
+    ensures { λ r. ⌜ Stands r (mantissa 0 (drop from (now (text .entry))) * 5 ^ fives * 2 ^ twos) (m * 5 ^ mfives * 2 ^ mtwos) ⌝ }
+{
+    let up = over(twos, mtwos);
+    let down = over(mtwos, twos);
+    let left = bits(4 * (text.len() - from) as u32, fives, up);
+    let right = bits(64, mfives, down);
+    let used = ((left + over(right, left)) / 32 + 1) as usize;
+    let mut a: [u32; 112] = [0u32; 112];
+    let mut b: [u32; 112] = [0u32; 112];
+    settled(
+        &mut a[..used],
+        &mut b[..used],
+        text,
+        from,
+        fives,
+        up,
+        m,
+        mfives,
+        down,
+    )
 }

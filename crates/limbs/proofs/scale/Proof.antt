@@ -1,11 +1,12 @@
 -- `limbs::scale` meets its contract. Assumes nothing.
 use mathlib.Core.Path.{_≡_, _∙_}
-use Prim.Native.Nat.{ℕ, _*_, _%_, _^_, _≤_, _<_}
-use native.Mathlib.Nat.{add-zero, one-mul, mul-le-mul-left}
+use Prim.Native.Nat.{ℕ, _*_, _%_, _^_, _<_}
+use native.Mathlib.Nat.{add-zero, one-mul}
 use native.Mathlib.Omega.{arith}
 use lib.Dec.{lit<}
 use lib.Pow.{pow-pos, shl-exact}
 use Rattle.limbs.proofs.Low.{same-room}
+use Rattle.limbs.proofs.Scaled.{without}
 use borrow.Author.Needs.{needs}
 use Rattle.limbs.proofs.scale.Statement.{statement}
 use Rattle.limbs.proofs.scale.Tie as tie
@@ -14,19 +15,13 @@ use Rattle.limbs.proofs.scale.Lts as lts
 use Rattle.limbs.proofs.mul_add.Reads as mul-add-reads
 use Rattle.limbs.proofs.times_fives.Reads as times-fives-reads
 
--- The number without the twos has room too.
-without-twos : (x t r : ℕ) → x * 2 ^ t < r → x < r
-without-twos x t r holds =
-    let one : 1 ≤ 2 ^ t = pow-pos t in
-    omega (arith, mul-le-mul-left x one)
-
 -- `1 << t` is 2^t.
 one-shifted : (t : ℕ) → t < 32 → 1 * 2 ^ t % 2 ^ 32 ≡ 2 ^ t
 one-shifted t h = shl-exact {a = 1} 1 t 32 (lit< tt) (omega arith) ∙ one-mul (2 ^ t)
 
 -- src/lib.rt:64:5
 times-fives-requires : tie.Need-times-fives-requires
-times-fives-requires c κs = without-twos _ (c .before .before .args .twos) _ (c .before .before .pre .1)
+times-fives-requires c κs = without _ _ _ (pow-pos (c .before .before .args .twos)) (c .before .before .pre .1)
 
 -- src/lib.rt:65:16
 shl-mul-add : tie.Need-shl-mul-add
