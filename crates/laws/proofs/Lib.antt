@@ -8,3 +8,4 @@ pub mod Exponents
 pub mod Closest
 pub mod Puts
 pub mod Rest
+pub mod Halves

@@ -4,9 +4,10 @@ use Prim.Native.Nat.{_+_, _*_, _^_, _<_}
 use native.Mathlib.Omega.{arith}
 use borrow.Author.Needs.{needs}
 use lib.Dec.{lit<, lit≤}
+use Rattle.laws.proofs.Halves.{product-fits, rounded-fits}
 use Rattle.rules.specs.Width.{w32}
 use Rattle.theorems.proofs.Product.{dropped-nothing}
-use Rattle.diyfp.proofs.Multiplying.{Sum, sums, product-fits, rounded-fits}
+use Rattle.diyfp.proofs.Multiplying.{Sum, sums}
 use Rattle.diyfp.proofs.binary32.DiyFp32.times.Statement.{statement}
 use Rattle.diyfp.proofs.binary32.DiyFp32.times.Tie as tie
 

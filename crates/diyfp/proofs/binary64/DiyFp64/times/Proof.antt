@@ -1,10 +1,12 @@
 -- `diyfp::binary64::DiyFp64::times` meets its contract. Assumes nothing.
 use mathlib.Core.Path.{sym, _∙_}
+use Prim.Native.Nat.{_^_}
 use native.Mathlib.Omega.{arith}
 use lib.Dec.{lit<, lit≤}
+use Rattle.laws.proofs.Halves.{Halves, halves, upper-half}
 use Rattle.rules.specs.Width.{w64}
 use Rattle.theorems.proofs.Product.{dropped-nothing}
-use Rattle.diyfp.proofs.Multiplying.{Sum, sums, Halves, halves, rounded}
+use Rattle.diyfp.proofs.Multiplying.{Sum, sums}
 use Rattle.diyfp.proofs.binary64.DiyFp64.times.Statement.{statement}
 use Rattle.diyfp.proofs.binary64.DiyFp64.times.Tie as tie
 
@@ -55,7 +57,7 @@ unfolding w64
 returns c =
     let a = c .before .before .before .before .before .before .before .before in
     record {
-      significand = rounded (a .args .self .f) (a .args .rhs .f) ∙ sym (dropped-nothing w64 _ _ (lit< tt));
+      significand = upper-half (a .args .self .f) (a .args .rhs .f) (2 ^ 31) ∙ sym (dropped-nothing w64 _ _ (lit< tt));
       exponent = exponents a .whole;
     }
 
