@@ -16,6 +16,7 @@ pub record Targets (t : Target) (w : Width) : Type 0 where
 pub record Sized (t : Target) : Type 0 where
   pub some : 0 < t .fraction
   pub few : t .fraction ≤ 52
+  pub least : 126 ≤ t .base
   pub based : t .base ≤ 1200
   pub field : 2 ≤ t .ones
   pub most : t .ones ≤ 2047

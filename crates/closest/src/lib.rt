@@ -1,4 +1,6 @@
 // Rounding to the nearest pattern of a width, whose numbers are given.
+ghost use mathlib.Core.Path.{_≡_};
+ghost use Prim.Native.Nat.{_*_, _^_};
 ghost use Rattle.rules.specs.Width.{w32, w64};
 ghost use Rattle.closest.specs.Targets.{Targets, Sized};
 
@@ -29,4 +31,20 @@ pub fn binary64() -> Target
         base: 126,
         ones: 2047,
     }
+}
+
+// The hidden bit of a width's significands.
+pub fn hidden_bit(t: Target) -> u64
+    requires { ⌜ Sized t ⌝ }
+    ensures { λ r. ⌜ r ≡ 2 ^ t .fraction ⌝ }
+{
+    1 << t.fraction
+}
+
+// The pattern of a width's infinity.
+pub fn infinity(t: Target) -> u64
+    requires { ⌜ Sized t ⌝ }
+    ensures { λ r. ⌜ r ≡ t .ones * 2 ^ t .fraction ⌝ }
+{
+    t.ones as u64 * hidden_bit(t)
 }

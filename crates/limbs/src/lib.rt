@@ -167,7 +167,7 @@ fn over(x: u32, y: u32) -> u32
 
 // A number of this many bits, times 5^fives * 2^twos, has no more than these: 5^3 is below 2^7.
 fn bits(width: u32, fives: u32, twos: u32) -> u32
-    requires { ⌜ (width ≤ 256) × (fives ≤ 400) × (twos ≤ 2500) ⌝ }
+    requires { ⌜ (width ≤ 256) × (fives ≤ 410) × (twos ≤ 2500) ⌝ }
     ensures { λ r. ⌜ r ≡ width + 7 * (fives / 3 + 1) + twos ⌝ }
 {
     width + 7 * (fives / 3 + 1) + twos
@@ -183,7 +183,7 @@ pub fn against(
     mfives: u32,
     mtwos: u32,
 ) -> Order
-    requires { ⌜ (from ≤ length (now text)) × (length (now text) ≤ 64) × (fives ≤ 320) × (mfives ≤ 400) × (twos ≤ 1400) × (mtwos ≤ 2500) ⌝ }
+    requires { ⌜ (from ≤ length (now text)) × (length (now text) ≤ 64) × (fives ≤ 320) × (mfives ≤ 410) × (twos ≤ 1400) × (mtwos ≤ 2500) ⌝ }
     ensures { λ r. ⌜ Stands r (mantissa 0 (drop from (now (text .entry))) * 5 ^ fives * 2 ^ twos) (m * 5 ^ mfives * 2 ^ mtwos) ⌝ }
 {
     let up = over(twos, mtwos);

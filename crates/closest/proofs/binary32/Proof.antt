@@ -11,7 +11,7 @@ returns : tie.Need-returns
 unfolding w32 allOnes low
 returns c = (
   record { fraction = refl; base = refl; ones = refl },
-  record { some = lit< tt; few = lit≤ tt; based = lit≤ tt; field = lit≤ tt; most = lit≤ tt; fits = lit< tt },
+  record { some = lit< tt; few = lit≤ tt; least = lit≤ tt; based = lit≤ tt; field = lit≤ tt; most = lit≤ tt; fits = lit< tt },
 )
 
 pub binary32-spec : {M : Type 1} → statement M
