@@ -1,2 +1,4 @@
 pub mod Kept
 pub mod Mantissa
+pub mod Passes
+pub mod Goes

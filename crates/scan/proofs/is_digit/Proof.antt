@@ -1,0 +1,17 @@
+-- `scan::is_digit` meets its contract: its two tests are those of the definition. Assumes nothing.
+use mathlib.Core.Path.{_≡_}
+use borrow.Author.Tests.{le-leb, lt-leb}
+use Rattle.rules.specs.Reading.{isDigit}
+use Rattle.scan.proofs.is_digit.Statement.{statement}
+use Rattle.scan.proofs.is_digit.Tie as tie
+
+returns : tie.Need-returns
+unfolding isDigit
+returns c = rw (lt-leb 48 (c .before .args .b) (c .if1 .taken))
+
+returns-2 : tie.Need-returns-2
+unfolding isDigit
+returns-2 c = rw (le-leb 48 (c .before .args .b) (c .if1 .left))
+
+pub is-digit-spec : {M : Type 1} → statement M
+is-digit-spec = tie.close (tie.spec returns returns-2)
