@@ -13,7 +13,8 @@ use lib.Seq.{drop-cons}
 use Rattle.laws.proofs.Branches.{and-left, and-right}
 use Rattle.rules.specs.Bytes.{byte0}
 use Rattle.rules.specs.Reading.{isDigit, extended}
-use Rattle.scan.specs.Passes.{Passes, none, more, starts, Makes}
+use Rattle.scan.specs.Heads.{starts}
+use Rattle.scan.specs.Passes.{Passes, none, more, Makes}
 
 -- The bytes that are digits.
 pub digit-range : (b : ℕ) → isDigit b ≡ true → (byte0 ≤ b) × (b < byte0 + 10)

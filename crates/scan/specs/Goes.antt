@@ -6,8 +6,9 @@ use mathlib.Core.Path.{_≡_}
 use lib.ListN.{length, drop}
 use Rattle.scan.specs.declared.Held.{Held}
 use Rattle.scan.specs.declared.Run.{Run}
+use Rattle.scan.specs.Heads.{starts}
 use Rattle.scan.specs.Kept.{Kept}
-use Rattle.scan.specs.Passes.{Passes, starts}
+use Rattle.scan.specs.Passes.{Passes}
 
 -- What is held of the number a.
 abbrev pub Keeps : ℕ → Held → Type 0

@@ -1,7 +1,7 @@
 -- Digits at the head of a text, passed one by one. Assumes nothing.
 use Prim.Native.Nat.{ℕ, suc, _+_, _*_, _^_}
-use mathlib.Core.Bool.{Bool, true, false}
-use mathlib.Core.List.{List, [], _∷_}
+use mathlib.Core.Bool.{true}
+use mathlib.Core.List.{List, _∷_}
 use mathlib.Core.Path.{_≡_}
 use lib.ListN.{drop}
 use Rattle.rules.specs.Reading.{isDigit, extended}
@@ -10,11 +10,6 @@ use Rattle.rules.specs.Reading.{isDigit, extended}
 pub data Passes : ℕ → List ℕ → ℕ → ℕ → List ℕ → Type 0 where
   none : {a : ℕ} {t : List ℕ} → Passes a t 0 a t
   more : {a b n c : ℕ} {bs u : List ℕ} → isDigit b ≡ true → Passes (extended a b) bs n c u → Passes a (b ∷ bs) (suc n) c u
-
--- Whether a text begins with a digit.
-unfoldable pub starts : List ℕ → Bool
-starts [] = false
-starts (b ∷ bs) = isDigit b
 
 -- The k bytes at a place are digits that make v.
 pub record Makes (k : ℕ) (t : List ℕ) (at v : ℕ) : Type 0 where

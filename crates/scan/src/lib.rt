@@ -1,12 +1,36 @@
 // From the bytes of a text to its sign, its first digits and its power of ten.
-ghost use mathlib.Core.Bool.{true};
+ghost use mathlib.Core.Bool.{true, false};
+ghost use mathlib.Core.List.{[], _∷_};
 ghost use mathlib.Core.Path.{_≡_};
 ghost use Prim.Native.Nat.{ℕ, _+_, _-_, _*_, _^_, _<_, _≤_};
-ghost use lib.ListN.{length};
+ghost use lib.ListN.{length, drop};
 ghost use Rattle.rules.specs.Bytes.{byte0};
-ghost use Rattle.rules.specs.Reading.{isDigit};
+ghost use Rattle.rules.specs.Reading.{isDigit, same, unsigned, decimalsMore, exponentSign};
+ghost use Rattle.scan.specs.Mantissa.{mantissa};
+ghost use Rattle.scan.specs.Signs.{Signs};
 ghost use Rattle.scan.specs.Passes.{Makes};
+ghost use Rattle.scan.specs.Heads.{starts, begins};
 ghost use Rattle.scan.specs.Goes.{Keeps, Goes, Reaches};
+ghost use Rattle.scan.specs.Raises.{Raises, Counts};
+ghost use Rattle.scan.specs.Scans.{Scans, Tells};
+
+// A number: its sign, its first 19 digits at most, how many follow that are not kept, whether one of those is not 0,
+// and the power of ten of the last digit that is kept, 10,100 added.
+pub struct Decimal {
+    pub negative: bool,
+    pub digits: u64,
+    pub dropped: u32,
+    pub more: bool,
+    pub place: u32,
+}
+
+// What a text says.
+pub enum Scanned {
+    Refused,
+    NotANumber,
+    Infinite(bool),
+    Number(Decimal),
+}
 
 // What is kept of digits.
 pub struct Held {
@@ -19,6 +43,12 @@ pub struct Held {
 pub struct Run {
     pub at: usize,
     pub held: Held,
+}
+
+// A sign, and the place behind it.
+pub struct Signed {
+    pub negative: bool,
+    pub from: usize,
 }
 
 // Whether a byte is a digit.
@@ -171,4 +201,188 @@ fn decimals(s: &[u8], from: usize, start: Held) -> Run
 {
     let front = eights(s, from, start);
     digits(s, front.at, front.held)
+}
+
+// Whether the text from a place on begins with a digit.
+fn starts_at(s: &[u8], at: usize) -> bool
+    ensures { λ r. ⌜ r ≡ starts (drop at (now (s .entry))) ⌝ }
+{
+    if s.len() <= at {
+        return false;
+    }
+    is_digit(s[at])
+}
+
+// Whether the text from a place on begins with the byte b.
+fn begins_at(s: &[u8], at: usize, b: u8) -> bool
+    ensures { λ r. ⌜ r ≡ begins b (drop at (now (s .entry))) ⌝ }
+{
+    if s.len() <= at {
+        return false;
+    }
+    s[at] == b
+}
+
+// The sign at a place of a text.
+fn sign(s: &[u8], at: usize) -> Signed
+    requires { ⌜ at ≤ length (now s) ⌝ }
+    ensures { λ r. ⌜ Signs (now (s .entry)) at r ⌝ }
+{
+    if begins_at(s, at, b'-') {
+        return Signed {
+            negative: true,
+            from: at + 1,
+        };
+    }
+    Signed {
+        negative: false,
+        from: at,
+    }
+}
+
+// The number that the digits of an exponent make, 1 to 4 up to the end of the text; else 10,000.
+fn exponent_digits(s: &[u8], from: usize) -> u32
+    requires { ⌜ from ≤ length (now s) ⌝ }
+    ensures { λ r. ⌜ Counts (drop from (now (s .entry))) r ⌝ }
+{
+    let count = s.len() - from;
+    if count == 0 {
+        return 10000;
+    }
+    if 4 < count {
+        return 10000;
+    }
+    let mut e: u32 = 0;
+    let mut i = from;
+    while i < s.len() {
+        let b = s[i];
+        if !is_digit(b) {
+            return 10000;
+        }
+        e = e * 10 + value(b) as u32;
+        i += 1;
+    }
+    e
+}
+
+// The power of ten that follows an `e`, 10,000 added; 0 of no number.
+fn exponent(s: &[u8], at: usize) -> u32
+    requires { ⌜ at ≤ length (now s) ⌝ }
+    ensures { λ r. ⌜ Raises (λ a n. exponentSign a n (drop at (now (s .entry)))) r ⌝ }
+{
+    let x = sign(s, at);
+    let e = exponent_digits(s, x.from);
+    if e == 10000 {
+        return 0;
+    }
+    if x.negative {
+        return 10000 - e;
+    }
+    10000 + e
+}
+
+// The power of ten that follows the digits, 10,000 added; 0 of no number.
+fn raised(s: &[u8], at: usize) -> u32
+    requires { ⌜ (at ≤ length (now s)) × (starts (drop at (now s)) ≡ false) ⌝ }
+    ensures { λ r. ⌜ Raises (λ a n. decimalsMore a n (drop at (now (s .entry)))) r
+        × (0 < r → (a : ℕ) → mantissa a (drop at (now (s .entry))) ≡ a) ⌝ }
+{
+    if s.len() <= at {
+        return 10000;
+    }
+    if s[at] != b'e' {
+        return 0;
+    }
+    exponent(s, at + 1)
+}
+
+// The number whose digits end at a place, n of them behind the point.
+fn finished(s: &[u8], run: Run, n: usize, negative: bool) -> Scanned
+    requires { ⌜ (run .at ≤ length (now s)) × (starts (drop (run .at) (now s)) ≡ false) × (run .held .dropped ≤ 64) × (n ≤ 64) ⌝ }
+    ensures { λ r. ⌜ ((a : ℕ) → Keeps a (run .held) →
+        Tells (decimalsMore a n (drop (run .at) (now (s .entry)))) (mantissa a (drop (run .at) (now (s .entry)))) negative r) ⌝ }
+{
+    let power = raised(s, run.at);
+    if power == 0 {
+        return Scanned::Refused;
+    }
+    let held = run.held;
+    let place = power + 100 + held.dropped - n as u32;
+    Scanned::Number(Decimal {
+        negative,
+        digits: held.digits,
+        dropped: held.dropped,
+        more: held.more,
+        place,
+    })
+}
+
+// The number that begins with a digit at a place.
+fn number(s: &[u8], from: usize, negative: bool) -> Scanned
+    requires { ⌜ (from ≤ length (now s)) × (length (now s) ≤ 64) × (starts (drop from (now s)) ≡ true) ⌝ }
+    ensures { λ r. ⌜ Tells (unsigned (drop from (now (s .entry)))) (mantissa 0 (drop from (now (s .entry)))) negative r ⌝ }
+{
+    let whole = digits(
+        s,
+        from,
+        Held {
+            digits: 0,
+            dropped: 0,
+            more: false,
+        },
+    );
+    let dot = whole.at;
+    if !begins_at(s, dot, b'.') {
+        return finished(s, whole, 0, negative);
+    }
+    let all = decimals(s, dot + 1, whole.held);
+    let n = all.at - (dot + 1);
+    if n == 0 {
+        return Scanned::Refused;
+    }
+    finished(s, all, n, negative)
+}
+
+// Whether a text from a place on is a word of three letters.
+fn is_word(s: &[u8], from: usize, a: u8, b: u8, c: u8) -> bool
+    requires { ⌜ from ≤ length (now s) ⌝ }
+    ensures { λ r. ⌜ r ≡ same (drop from (now (s .entry))) (a ∷ b ∷ c ∷ []) ⌝ }
+{
+    if s.len() - from != 3 {
+        return false;
+    }
+    if s[from] != a {
+        return false;
+    }
+    if s[from + 1] != b {
+        return false;
+    }
+    s[from + 2] == c
+}
+
+// The text that is no number: a word, or refused.
+fn word(text: &[u8], x: Signed) -> Scanned
+    requires { ⌜ Signs (now text) 0 x × (starts (drop (x .from) (now text)) ≡ false) ⌝ }
+    ensures { λ r. ⌜ Scans (now (text .entry)) r ⌝ }
+{
+    if is_word(text, 0, b'N', b'a', b'N') {
+        return Scanned::NotANumber;
+    }
+    if is_word(text, x.from, b'i', b'n', b'f') {
+        return Scanned::Infinite(x.negative);
+    }
+    Scanned::Refused
+}
+
+// Reads a text as far as its digits.
+pub fn scan(text: &[u8]) -> Scanned
+    requires { ⌜ (0 < length (now text)) × (length (now text) ≤ 64) ⌝ }
+    ensures { λ r. ⌜ Scans (now (text .entry)) r ⌝ }
+{
+    let x = sign(text, 0);
+    let from = x.from;
+    if !starts_at(text, from) {
+        return word(text, x);
+    }
+    number(text, from, x.negative)
 }

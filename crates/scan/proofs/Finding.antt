@@ -1,0 +1,151 @@
+-- From the digits of a text and its exponent to its number. Assumes nothing.
+use mathlib.Core.Bool.{Bool, true, false, true≢false}
+use mathlib.Core.List.{List, [], _∷_}
+use mathlib.Core.Logic.{⊎-elim}
+use mathlib.Core.Path.{_≡_, refl, sym, ap, _∙_, subst}
+use Prim.Native.Nat.{ℕ, suc, _+_, _-_, _*_, _^_, _≤_, _<_}
+use native.Mathlib.Omega.{arith}
+use borrow.Author.Tests.{ne-eqb}
+use lib.Dec.{eqb}
+use lib.ListN.{length, getD, drop}
+use Rattle.laws.proofs.Branches.{which}
+use Rattle.rules.specs.Bytes.{point}
+use Rattle.rules.specs.Reading.{Unsigned, noNumber, isDigit, extended, unsigned, wholeMore, decimalsFirst, decimalsMore}
+use Rattle.scan.specs.declared.Decimal.{Decimal}
+use Rattle.scan.specs.declared.Held.{Held}
+use Rattle.scan.specs.declared.Run.{Run}
+use Rattle.scan.specs.declared.Scanned.{Scanned}
+use Rattle.scan.specs.Goes.{Keeps, Leads, Reaches}
+use Rattle.scan.specs.Heads.{starts, begins}
+use Rattle.scan.specs.Kept.{Kept}
+use Rattle.scan.specs.Mantissa.{mantissa}
+use Rattle.scan.specs.Passes.{Passes, none, more}
+use Rattle.scan.specs.Raises.{Raises}
+use Rattle.scan.specs.Scans.{Finds, Tells}
+use Rattle.scan.proofs.Passing.{cons, along}
+use Rattle.scan.proofs.Signing.{begins-inside, begins-is}
+
+-- ---- the number behind its digits
+
+-- A power of ten with 10,000 added is below 20,000.
+pub bounded : {f : ℕ → ℕ → Unsigned} {r : ℕ} → Raises f r → r < 20000
+bounded {r = r} p = ⊎-elim (λ some. let q = p .holds some in omega (arith, q .place, q .least)) (λ none. omega arith) (which 0 r)
+
+-- What an exponent and the place of the last digit that is kept make of a number.
+pub found : {a r : ℕ} (n : ℕ) (t : List ℕ) (x : Decimal) → Raises (λ a n. decimalsMore a n t) r → 0 < r → ((a : ℕ) → mantissa a t ≡ a) →
+    Kept a (x .digits) (x .dropped) (x .more) → x .place ≡ r + 100 + x .dropped - n → x .dropped ≤ 64 → n ≤ 64 →
+    Finds (decimalsMore a n t) (mantissa a t) (x .negative) x
+found {a} {r} n t x raises some ends kept place few most =
+    let p = raises .holds some in
+    rw (ends a)
+    (record {
+      up = p .up;
+      down = n + p .down;
+      sign = refl;
+      says = p .is a n;
+      kept = kept;
+      place = omega (arith, p .place, p .most);
+      few = few;
+      most = omega (arith, p .most);
+      least = p .least;
+    })
+
+-- ---- the digits before the point and behind it
+
+-- A text that begins with digits begins with a digit.
+first-passed : {a n c : ℕ} {t u : List ℕ} → Passes a t n c u → 0 < n → starts t ≡ true
+unfolding starts
+first-passed none some = absurd (omega arith)
+first-passed (more d p) some = d
+
+-- The first digit is as the others are.
+unsigned-whole : (t : List ℕ) → starts t ≡ true → unsigned t ≡ wholeMore 0 t
+unfolding starts unsigned wholeMore
+unsigned-whole [] is = absurd (true≢false (sym is))
+unsigned-whole (b ∷ bs) is = rw (is, unsigned, wholeMore)
+
+decimals-first : (a : ℕ) (t : List ℕ) → starts t ≡ true → decimalsFirst a t ≡ decimalsMore a 0 t
+unfolding starts decimalsFirst decimalsMore
+decimals-first a [] is = absurd (true≢false (sym is))
+decimals-first a (b ∷ bs) is = rw (is, decimalsFirst, decimalsMore)
+
+-- Where there is none, there is no number.
+pub unsigned-none : (t : List ℕ) → starts t ≡ false → unsigned t ≡ noNumber
+unfolding starts unsigned
+unsigned-none [] is = refl
+unsigned-none (b ∷ bs) is = rw (is, unsigned)
+
+decimals-none : (a : ℕ) (t : List ℕ) → starts t ≡ false → decimalsFirst a t ≡ noNumber
+unfolding starts decimalsFirst
+decimals-none a [] is = refl
+decimals-none a (b ∷ bs) is = rw (is, decimalsFirst)
+
+-- The digits passed.
+module _ {a n c : ℕ} {t u : List ℕ} (p : Passes a t n c u) where
+  whole-passed : wholeMore a t ≡ wholeMore c u
+  unfolding wholeMore
+  whole-passed = along (λ x m. wholeMore x) (λ x m b bs d. rw (d, wholeMore)) 0 p
+
+  mantissa-passed : mantissa a t ≡ mantissa c u
+  unfolding mantissa
+  mantissa-passed = along (λ x m. mantissa x) (λ x m b bs d. rw (d, mantissa)) 0 p
+
+  decimals-passed : 0 < n → decimalsFirst a t ≡ decimalsMore c n u
+  unfolding decimalsMore
+  decimals-passed some = decimals-first a t (first-passed p some) ∙ along decimalsMore (λ x m b bs d. rw (d, decimalsMore)) 0 p ∙ ap (λ (k : ℕ). decimalsMore c k u) (omega arith)
+
+unsigned-passed : {n c : ℕ} {t u : List ℕ} → Passes 0 t n c u → starts t ≡ true → unsigned t ≡ wholeMore c u
+unsigned-passed {t = t} p some = unsigned-whole t some ∙ whole-passed p
+
+-- Without a point, it is as if none of the digits were behind it.
+no-point : (a : ℕ) (t : List ℕ) → starts t ≡ false → begins point t ≡ false → wholeMore a t ≡ decimalsMore a 0 t
+unfolding starts begins wholeMore decimalsMore
+no-point a [] digit dot = refl
+no-point a (b ∷ bs) digit dot = rw (digit, dot, wholeMore, decimalsMore)
+
+-- At the point.
+module _ (a : ℕ) (t : List ℕ) (at : ℕ) (dot : begins point (drop at t) ≡ true) where
+  point-whole : wholeMore a (drop at t) ≡ decimalsFirst a (drop (at + 1) t)
+  unfolding wholeMore isDigit
+  point-whole = rw (cons t at (begins-inside point t at dot), begins-is point t at dot)
+
+  point-mantissa : mantissa a (drop at t) ≡ mantissa a (drop (at + 1) t)
+  unfolding mantissa isDigit
+  point-mantissa = rw (cons t at (begins-inside point t at dot), begins-is point t at dot)
+
+-- ---- the whole number
+
+-- An answer tells as much of what is equal.
+likewise : {u v : Unsigned} {m k : ℕ} (negative : Bool) (r : Scanned) → v ≡ u → k ≡ m → Tells u m negative r → Tells v k negative r
+likewise {u} {v} {m} {k} negative r e f told =
+    subst (λ (x : Unsigned). Tells x k negative r) (sym e) (subst (λ (x : ℕ). Tells u x negative r) (sym f) told)
+
+-- The number whose first digits end at a place.
+module _ {t : List ℕ} {from : ℕ} {start : Held} {whole : Run} (first : starts (drop from t) ≡ true) (zero : Keeps 0 start)
+    (run : Reaches t from start whole) where
+  front : Leads 0 (drop from t) (whole .at - from) (drop (whole .at) t) (whole .held)
+  front = run .goes .leads 0 zero
+
+  -- No point follows.
+  pub alone : (negative : Bool) (r : Scanned) → begins point (drop (whole .at) t) ≡ false →
+      ((a : ℕ) → Keeps a (whole .held) → Tells (decimalsMore a 0 (drop (whole .at) t)) (mantissa a (drop (whole .at) t)) negative r) →
+      Tells (unsigned (drop from t)) (mantissa 0 (drop from t)) negative r
+  alone negative r dot tells =
+      likewise negative r (unsigned-passed (front .passes) first ∙ no-point (front .all) (drop (whole .at) t) (run .ends) dot)
+      (mantissa-passed (front .passes)) (tells (front .all) (front .keeps))
+
+  -- A point follows.
+  module _ {all : Run} (dot : begins point (drop (whole .at) t) ≡ true) (behind : Reaches t (whole .at + 1) (whole .held) all) where
+    to-point : unsigned (drop from t) ≡ decimalsFirst (front .all) (drop (whole .at + 1) t)
+    to-point = unsigned-passed (front .passes) first ∙ point-whole (front .all) t (whole .at) dot
+
+    pub no-decimals : all .at ≡ whole .at + 1 → unsigned (drop from t) ≡ noNumber
+    no-decimals here = to-point ∙ decimals-none (front .all) (drop (whole .at + 1) t) (rw here at (behind .ends))
+
+    pub decimals : (negative : Bool) (r : Scanned) → whole .at + 1 < all .at →
+        ((a : ℕ) → Keeps a (all .held) → Tells (decimalsMore a (all .at - (whole .at + 1)) (drop (all .at) t)) (mantissa a (drop (all .at) t)) negative r) →
+        Tells (unsigned (drop from t)) (mantissa 0 (drop from t)) negative r
+    decimals negative r some tells =
+        let back = behind .goes .leads (front .all) (front .keeps) in
+        likewise negative r (to-point ∙ decimals-passed (back .passes) (omega arith))
+        (mantissa-passed (front .passes) ∙ point-mantissa (front .all) t (whole .at) dot ∙ mantissa-passed (back .passes)) (tells (back .all) (back .keeps))

@@ -1,0 +1,59 @@
+-- The `-` that a text, or its exponent, begins with. Assumes nothing.
+use mathlib.Core.Bool.{Bool, true, false, true≢false}
+use mathlib.Core.List.{List, [], _∷_}
+use mathlib.Core.Logic.{⊎-elim}
+use mathlib.Core.Path.{_≡_, refl, sym, _∙_}
+use Prim.Native.Nat.{ℕ, _+_, _≤_, _<_}
+use native.Mathlib.Omega.{arith}
+use borrow.Author.Tests.{eqb-true}
+use lib.Dec.{eqb}
+use lib.ListN.{length, getD, drop, drop-of-length-le}
+use lib.Seq.{drop-drop}
+use Rattle.laws.proofs.Branches.{which}
+use Rattle.rules.specs.Bytes.{minus}
+use Rattle.rules.specs.Reading.{Unsigned, exponentFirst, exponentSign}
+use Rattle.scan.specs.declared.Signed.{Signed}
+use Rattle.scan.specs.Heads.{begins}
+use Rattle.scan.specs.Mantissa.{behindSign}
+use Rattle.scan.specs.Signs.{Signs}
+use Rattle.scan.proofs.Passing.{cons}
+
+-- The byte b stands at a place of the text t, or not.
+module _ (b : ℕ) (t : List ℕ) (at : ℕ) where
+  pub begins-at : at < length t → begins b (drop at t) ≡ eqb (getD t at 0) b
+  unfolding begins
+  begins-at inside = rw (cons t at inside)
+
+  pub begins-end : length t ≤ at → begins b (drop at t) ≡ false
+  unfolding begins
+  begins-end end = rw (drop-of-length-le t end)
+
+  pub begins-inside : begins b (drop at t) ≡ true → at < length t
+  begins-inside is = ⊎-elim (λ less. less) (λ end. absurd (true≢false (sym is ∙ begins-end end))) (which at (length t))
+
+  pub begins-is : begins b (drop at t) ≡ true → getD t at 0 ≡ b
+  begins-is is = eqb-true (getD t at 0) b (sym (begins-at (begins-inside is)) ∙ is)
+
+module _ (t : List ℕ) (at : ℕ) where
+  pub negative-at : begins minus (drop at t) ≡ true → Signs t at (record { negative = true; from = at + 1 })
+  unfolding behindSign
+  negative-at is = record { negative = sym is; inside = omega (arith, begins-inside minus t at is); rest = sym (drop-drop 1 at t) }
+
+  pub positive-at : at ≤ length t → begins minus (drop at t) ≡ false → Signs t at (record { negative = false; from = at })
+  unfolding behindSign
+  positive-at inside is = record { negative = sym is; inside = inside; rest = refl }
+
+-- An exponent is its sign and its digits.
+pub by-sign : (a n : ℕ) (t : List ℕ) → exponentSign a n t ≡ exponentFirst a n (begins minus t) (behindSign (begins minus t) t)
+unfolding exponentSign exponentFirst begins behindSign
+by-sign a n [] = refl
+by-sign a n (b ∷ bs) = by-case (eqb b minus)
+  where
+    by-case : (m : Bool) →
+        _≡_ {A = Unsigned} (elim m [ true ↦ exponentFirst a n true bs | false ↦ exponentFirst a n false (b ∷ bs) ]) (exponentFirst a n m (behindSign m (b ∷ bs)))
+    by-case true = refl
+    by-case false = refl
+
+pub signed-exponent : {t : List ℕ} {at : ℕ} {x : Signed} → Signs t at x → (a n : ℕ) →
+    exponentSign a n (drop at t) ≡ exponentFirst a n (x .negative) (drop (x .from) t)
+signed-exponent {t} {at} {x} s a n = by-sign a n (drop at t) ∙ rw (s .rest, s .negative)
