@@ -2,15 +2,14 @@
 use mathlib.Core.Bool.{Bool, true, false, true≢false}
 use mathlib.Core.List.{List, [], _∷_}
 use mathlib.Core.Logic.{⊎-elim}
-use mathlib.Core.Path.{_≡_, refl, sym, ap, _∙_, subst}
-use Prim.Native.Nat.{ℕ, suc, _+_, _-_, _*_, _^_, _≤_, _<_}
+use mathlib.Core.Path.{_≡_, refl, sym, _∙_, subst}
+use Prim.Native.Nat.{ℕ, _+_, _-_, _≤_, _<_}
+use native.Mathlib.Nat.{zero-add}
 use native.Mathlib.Omega.{arith}
-use borrow.Author.Tests.{ne-eqb}
-use lib.Dec.{eqb}
-use lib.ListN.{length, getD, drop}
+use lib.ListN.{drop}
 use Rattle.laws.proofs.Branches.{which}
 use Rattle.rules.specs.Bytes.{point}
-use Rattle.rules.specs.Reading.{Unsigned, noNumber, isDigit, extended, unsigned, wholeMore, decimalsFirst, decimalsMore}
+use Rattle.rules.specs.Reading.{Unsigned, noNumber, isDigit, unsigned, wholeMore, decimalsFirst, decimalsMore}
 use Rattle.scan.specs.declared.Decimal.{Decimal}
 use Rattle.scan.specs.declared.Held.{Held}
 use Rattle.scan.specs.declared.Run.{Run}
@@ -92,7 +91,7 @@ module _ {a n c : ℕ} {t u : List ℕ} (p : Passes a t n c u) where
 
   decimals-passed : 0 < n → decimalsFirst a t ≡ decimalsMore c n u
   unfolding decimalsMore
-  decimals-passed some = decimals-first a t (first-passed p some) ∙ along decimalsMore (λ x m b bs d. rw (d, decimalsMore)) 0 p ∙ ap (λ (k : ℕ). decimalsMore c k u) (omega arith)
+  decimals-passed some = decimals-first a t (first-passed p some) ∙ along decimalsMore (λ x m b bs d. rw (d, decimalsMore)) 0 p ∙ rw (zero-add n)
 
 unsigned-passed : {n c : ℕ} {t u : List ℕ} → Passes 0 t n c u → starts t ≡ true → unsigned t ≡ wholeMore c u
 unsigned-passed {t = t} p some = unsigned-whole t some ∙ whole-passed p

@@ -1,14 +1,13 @@
 -- From place to place of a text over its digits. Assumes nothing.
-use mathlib.Core.Bool.{true}
 use mathlib.Core.List.{List}
 use mathlib.Core.Path.{_≡_}
-use Prim.Native.Nat.{ℕ, _+_, _-_, _*_, _^_, _≤_, _<_}
+use Prim.Native.Nat.{ℕ, _+_, _-_, _*_, _^_, _≤_}
 use native.Mathlib.Nat.{sub-self}
 use native.Mathlib.Omega.{arith}
-use lib.ListN.{length, drop}
+use lib.ListN.{length}
 use Rattle.scan.specs.declared.Held.{Held}
-use Rattle.scan.specs.Passes.{Passes, none, Makes}
-use Rattle.scan.specs.Goes.{Keeps, Leads, Goes}
+use Rattle.scan.specs.Passes.{none, Makes}
+use Rattle.scan.specs.Goes.{Keeps, Goes}
 use Rattle.scan.proofs.Passing.{joined}
 
 -- From a place to itself.

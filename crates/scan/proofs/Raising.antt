@@ -1,19 +1,18 @@
 -- What stands behind the digits of a number: nothing, or an exponent. Assumes nothing.
 use mathlib.Core.Bool.{true, false}
-use mathlib.Core.List.{List, [], _∷_}
-use mathlib.Core.Path.{_≡_, refl, sym, ap, ap₂, _∙_}
+use mathlib.Core.List.{List}
+use mathlib.Core.Path.{_≡_, sym, ap₂, _∙_}
 use Prim.Native.Nat.{ℕ, _+_, _-_, _*_, _^_, _≤_, _<_}
 use native.Mathlib.Nat.{add-zero}
 use native.Mathlib.Omega.{arith}
 use borrow.Author.Tests.{ne-eqb}
-use lib.Dec.{eqb}
 use lib.ListN.{length, getD, drop, drop-of-length-le}
 use lib.Pow.{pow-add}
 use Rattle.rules.specs.Bytes.{letterE}
 use Rattle.rules.specs.Reading.{Unsigned, noNumber, over, isDigit, powered, exponentSign, decimalsMore}
 use Rattle.scan.specs.Heads.{starts}
 use Rattle.scan.specs.Mantissa.{mantissa}
-use Rattle.scan.specs.Raises.{Power, Raises}
+use Rattle.scan.specs.Raises.{Raises}
 use Rattle.scan.proofs.Passing.{cons, starts-at}
 
 module _ {f : ℕ → ℕ → Unsigned} where

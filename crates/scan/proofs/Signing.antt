@@ -11,10 +11,11 @@ use lib.ListN.{length, getD, drop, drop-of-length-le}
 use lib.Seq.{drop-drop}
 use Rattle.laws.proofs.Branches.{which}
 use Rattle.rules.specs.Bytes.{minus}
-use Rattle.rules.specs.Reading.{Unsigned, exponentFirst, exponentSign}
+use Rattle.rules.specs.Reading.{Unsigned, noNumber, powered, exponentFirst, exponentSign}
 use Rattle.scan.specs.declared.Signed.{Signed}
 use Rattle.scan.specs.Heads.{begins}
 use Rattle.scan.specs.Mantissa.{behindSign}
+use Rattle.scan.specs.Raises.{Counts}
 use Rattle.scan.specs.Signs.{Signs}
 use Rattle.scan.proofs.Passing.{cons}
 
@@ -50,10 +51,17 @@ by-sign a n [] = refl
 by-sign a n (b ∷ bs) = by-case (eqb b minus)
   where
     by-case : (m : Bool) →
-        _≡_ {A = Unsigned} (elim m [ true ↦ exponentFirst a n true bs | false ↦ exponentFirst a n false (b ∷ bs) ]) (exponentFirst a n m (behindSign m (b ∷ bs)))
+        elim m as (λ _. Unsigned) [ true ↦ exponentFirst a n true bs | false ↦ exponentFirst a n false (b ∷ bs) ] ≡
+        exponentFirst a n m (behindSign m (b ∷ bs))
     by-case true = refl
     by-case false = refl
 
-pub signed-exponent : {t : List ℕ} {at : ℕ} {x : Signed} → Signs t at x → (a n : ℕ) →
-    exponentSign a n (drop at t) ≡ exponentFirst a n (x .negative) (drop (x .from) t)
-signed-exponent {t} {at} {x} s a n = by-sign a n (drop at t) ∙ rw (s .rest, s .negative)
+module _ {t : List ℕ} {at e : ℕ} {x : Signed} (s : Signs t at x) (digits : Counts (drop (x .from) t) e) (a n : ℕ) where
+  behind : exponentSign a n (drop at t) ≡ exponentFirst a n (x .negative) (drop (x .from) t)
+  behind = by-sign a n (drop at t) ∙ rw (s .rest, s .negative)
+
+  pub no-exponent : e ≡ 10000 → exponentSign a n (drop at t) ≡ noNumber
+  no-exponent none = behind ∙ digits .fails none a n (x .negative)
+
+  pub signed-exponent : e < 10000 → (below : Bool) → x .negative ≡ below → exponentSign a n (drop at t) ≡ powered a n below e
+  signed-exponent less below is = behind ∙ digits .holds less a n (x .negative) ∙ rw is

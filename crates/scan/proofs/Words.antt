@@ -2,12 +2,11 @@
 use mathlib.Core.Bool.{Bool, true, false, _&&_, true≢false}
 use mathlib.Core.List.{List, [], _∷_}
 use mathlib.Core.Path.{_≡_, refl, sym, ap, _∙_}
-use Prim.Native.Nat.{ℕ, suc, _+_, _-_, _≤_, _<_}
+use Prim.Native.Nat.{ℕ, suc, _+_, _-_, _≤_}
 use native.Mathlib.Omega.{arith}
 use borrow.Author.Tests.{eqb-true, ne-eqb}
 use lib.Dec.{eqb}
-use lib.ListN.{length, getD, drop, length-drop, drop-of-length-le}
-use Rattle.laws.proofs.Branches.{either}
+use lib.ListN.{length, getD, drop, drop-of-length-le}
 use Rattle.rules.specs.Bytes.{bytes, minus}
 use Rattle.rules.specs.Reading.{Exact, refused, notANumber, infinite, isDigit, same, unsigned, withFraction, magnitudeOf, exact}
 use Rattle.scan.specs.declared.Scanned.{Scanned}
@@ -42,7 +41,15 @@ three t at a b c end =
     let second : at + 1 + 1 ≡ at + 2 = omega arith in
     let third : at + 2 + 1 ≡ at + 3 = omega arith in
     let past : length t ≤ at + 3 = omega arith in
-    rw (cons t at (omega arith), cons t (at + 1) (omega arith), second, cons t (at + 2) (omega arith), third, drop-of-length-le t past, always (eqb (getD t (at + 2) 0) c))
+    rw (
+      cons t at (omega arith),
+      cons t (at + 1) (omega arith),
+      second,
+      cons t (at + 2) (omega arith),
+      third,
+      drop-of-length-le t past,
+      always (eqb (getD t (at + 2) 0) c),
+    )
   where
     always : (x : Bool) → (x && true) ≡ x
     always true = refl

@@ -1,5 +1,4 @@
 -- `scan::finished` meets its contract. Assumes nothing.
-use mathlib.Core.Path.{refl}
 use native.Mathlib.Omega.{arith}
 use borrow.Author.Needs.{needs}
 use Rattle.scan.proofs.Finding.{bounded, found}
@@ -28,7 +27,7 @@ returns-2 : tie.Need-returns-2
 returns-2 c =
     let tested = c .before .before in
     let answer = tested .before .raised .ensures in
-    λ a k. found _ _ _ (answer .0) (omega arith) (answer .1 (omega arith)) k refl (omega arith) (omega arith)
+    λ a k. found _ _ _ (answer .0) (omega arith) (answer .1 (omega arith)) k (omega arith) (omega arith) (omega arith)
 
 pub finished-spec : {M : Type 1} → statement M
 finished-spec =

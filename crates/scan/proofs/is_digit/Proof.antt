@@ -1,5 +1,4 @@
 -- `scan::is_digit` meets its contract: its two tests are those of the definition. Assumes nothing.
-use mathlib.Core.Path.{_≡_}
 use borrow.Author.Tests.{le-leb, lt-leb}
 use Rattle.rules.specs.Reading.{isDigit}
 use Rattle.scan.proofs.is_digit.Statement.{statement}
