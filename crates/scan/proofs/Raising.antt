@@ -1,5 +1,5 @@
 -- What stands behind the digits of a number: nothing, or an exponent. Assumes nothing.
-use mathlib.Core.Bool.{true, false}
+use mathlib.Core.Bool.{Bool, true, false}
 use mathlib.Core.List.{List}
 use mathlib.Core.Path.{_≡_, sym, ap₂, _∙_}
 use Prim.Native.Nat.{ℕ, _+_, _-_, _*_, _^_, _≤_, _<_}
@@ -12,7 +12,7 @@ use Rattle.rules.specs.Bytes.{letterE}
 use Rattle.rules.specs.Reading.{Unsigned, noNumber, over, isDigit, powered, exponentSign, decimalsMore}
 use Rattle.scan.specs.Heads.{starts}
 use Rattle.scan.specs.Mantissa.{mantissa}
-use Rattle.scan.specs.Raises.{Raises}
+use Rattle.scan.specs.Raises.{Raises, Shifts}
 use Rattle.scan.proofs.Passing.{cons, starts-at}
 
 module _ {f : ℕ → ℕ → Unsigned} where
@@ -27,13 +27,10 @@ module _ {f : ℕ → ℕ → Unsigned} where
         holds = λ some. record { up = up; down = down; is = is; place = place; least = least; most = most };
       }
 
-  pub lowers : (e : ℕ) → e < 10000 → ((a n : ℕ) → f a n ≡ powered a n true e) → Raises f (10000 - e)
+  pub shifts : (e r : ℕ) (negative : Bool) → e < 10000 → Shifts negative e r → ((a n : ℕ) → f a n ≡ powered a n negative e) → Raises f r
   unfolding powered
-  lowers e less is = raises (10000 - e) 0 e (λ a n. is a n ∙ ap₂ over (omega arith) (sym (pow-add 10 n e))) (omega arith) (omega arith) (omega arith)
-
-  pub lifts : (e : ℕ) → e < 10000 → ((a n : ℕ) → f a n ≡ powered a n false e) → Raises f (10000 + e)
-  unfolding powered
-  lifts e less is = raises (10000 + e) e 0 (λ a n. is a n ∙ rw (add-zero n)) (omega arith) (omega arith) (omega arith)
+  shifts e r true less place is = raises r 0 e (λ a n. is a n ∙ ap₂ over (omega arith) (sym (pow-add 10 n e))) (omega arith) (omega arith) (omega arith)
+  shifts e r false less place is = raises r e 0 (λ a n. is a n ∙ rw (add-zero n)) (omega arith) (omega arith) (omega arith)
 
   pub leaves : ((a n : ℕ) → f a n ≡ over a (10 ^ n)) → Raises f 10000
   leaves is = raises 10000 0 0 (λ a n. is a n ∙ ap₂ over (omega arith) (rw (add-zero n))) (omega arith) (omega arith) (omega arith)

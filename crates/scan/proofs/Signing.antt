@@ -63,5 +63,5 @@ module _ {t : List ℕ} {at e : ℕ} {x : Signed} (s : Signs t at x) (digits : C
   pub no-exponent : e ≡ 10000 → exponentSign a n (drop at t) ≡ noNumber
   no-exponent none = behind ∙ digits .fails none a n (x .negative)
 
-  pub signed-exponent : e < 10000 → (below : Bool) → x .negative ≡ below → exponentSign a n (drop at t) ≡ powered a n below e
-  signed-exponent less below is = behind ∙ digits .holds less a n (x .negative) ∙ rw is
+  pub signed-exponent : e < 10000 → exponentSign a n (drop at t) ≡ powered a n (x .negative) e
+  signed-exponent less = behind ∙ digits .holds less a n (x .negative)

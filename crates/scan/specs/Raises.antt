@@ -1,6 +1,6 @@
 -- What an exponent does to the digits before it. Assumes nothing.
 use Prim.Native.Nat.{ℕ, _+_, _*_, _^_, _≤_, _<_}
-use mathlib.Core.Bool.{Bool}
+use mathlib.Core.Bool.{Bool, true, false}
 use mathlib.Core.List.{List}
 use mathlib.Core.Path.{_≡_}
 use Rattle.rules.specs.Reading.{Unsigned, noNumber, over, powered, exponentFirst}
@@ -18,6 +18,11 @@ pub record Power (f : ℕ → ℕ → Unsigned) (r : ℕ) : Type 0 where
 pub record Raises (f : ℕ → ℕ → Unsigned) (r : ℕ) : Type 0 where
   pub fails : r ≡ 0 → (a n : ℕ) → f a n ≡ noNumber
   pub holds : 0 < r → Power f r
+
+-- An exponent e with its sign, 10,000 added, is r: true stands for a `-`.
+abbrev pub Shifts : Bool → ℕ → ℕ → Type 0
+Shifts true e r = r + e ≡ 10000
+Shifts false e r = r ≡ 10000 + e
 
 -- The digits of an exponent make e, and 10,000 stands for no number.
 pub record Counts (t : List ℕ) (e : ℕ) : Type 0 where

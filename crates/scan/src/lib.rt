@@ -11,7 +11,7 @@ ghost use Rattle.scan.specs.Signs.{Signs};
 ghost use Rattle.scan.specs.Passes.{Makes};
 ghost use Rattle.scan.specs.Heads.{starts, begins};
 ghost use Rattle.scan.specs.Goes.{Keeps, Goes, Reaches};
-ghost use Rattle.scan.specs.Raises.{Raises, Counts};
+ghost use Rattle.scan.specs.Raises.{Raises, Counts, Shifts};
 ghost use Rattle.scan.specs.Scans.{Scans, Tells};
 
 // A number: its sign, its first 19 digits at most, how many follow that are not kept, whether one of those is not 0,
@@ -265,6 +265,17 @@ fn exponent_digits(s: &[u8], from: usize) -> u32
     e
 }
 
+// An exponent with its sign, 10,000 added.
+fn shifted(e: u32, negative: bool) -> u32
+    requires { ⌜ e < 10000 ⌝ }
+    ensures { λ r. ⌜ Shifts negative e r ⌝ }
+{
+    if negative {
+        return 10000 - e;
+    }
+    10000 + e
+}
+
 // The power of ten that follows an `e`, 10,000 added; 0 of no number.
 fn exponent(s: &[u8], at: usize) -> u32
     requires { ⌜ at ≤ length (now s) ⌝ }
@@ -275,10 +286,7 @@ fn exponent(s: &[u8], at: usize) -> u32
     if e == 10000 {
         return 0;
     }
-    if x.negative {
-        return 10000 - e;
-    }
-    10000 + e
+    shifted(e, x.negative)
 }
 
 // The power of ten that follows the digits, 10,000 added; 0 of no number.
