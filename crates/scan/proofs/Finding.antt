@@ -11,8 +11,8 @@ use Rattle.laws.proofs.Branches.{which}
 use Rattle.rules.specs.Bytes.{point}
 use Rattle.rules.specs.Reading.{Unsigned, noNumber, isDigit, unsigned, wholeMore, decimalsFirst, decimalsMore}
 use Rattle.scan.specs.declared.Decimal.{Decimal}
-use Rattle.scan.specs.declared.Held.{Held}
-use Rattle.scan.specs.declared.Run.{Run}
+use Rattle.scan.specs.declared.digits.Held.{Held}
+use Rattle.scan.specs.declared.digits.Run.{Run}
 use Rattle.scan.specs.declared.Scanned.{Scanned}
 use Rattle.scan.specs.Goes.{Keeps, Leads, Reaches}
 use Rattle.scan.specs.Heads.{starts, begins}

@@ -5,7 +5,7 @@ use Prim.Native.Nat.{ℕ, _+_, _-_, _*_, _^_, _≤_}
 use native.Mathlib.Nat.{sub-self}
 use native.Mathlib.Omega.{arith}
 use lib.ListN.{length}
-use Rattle.scan.specs.declared.Held.{Held}
+use Rattle.scan.specs.declared.digits.Held.{Held}
 use Rattle.scan.specs.Passes.{none, Makes}
 use Rattle.scan.specs.Goes.{Keeps, Goes}
 use Rattle.scan.proofs.Passing.{joined}

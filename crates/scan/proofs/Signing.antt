@@ -12,7 +12,7 @@ use lib.Seq.{drop-drop}
 use Rattle.laws.proofs.Branches.{which}
 use Rattle.rules.specs.Bytes.{minus}
 use Rattle.rules.specs.Reading.{Unsigned, noNumber, powered, exponentFirst, exponentSign}
-use Rattle.scan.specs.declared.Signed.{Signed}
+use Rattle.scan.specs.declared.heads.Signed.{Signed}
 use Rattle.scan.specs.Heads.{begins}
 use Rattle.scan.specs.Mantissa.{behindSign}
 use Rattle.scan.specs.Raises.{Counts}

@@ -11,7 +11,7 @@ use Rattle.rules.specs.Bytes.{bytes, minus}
 use Rattle.rules.specs.Reading.{Exact, refused, notANumber, infinite, isDigit, same, unsigned, withFraction, magnitudeOf, exact}
 use Rattle.scan.specs.declared.Scanned.{Scanned}
 use Rattle.scan.specs.declared.Scanned.the-variants.{Refused, NotANumber, Infinite, Number}
-use Rattle.scan.specs.declared.Signed.{Signed}
+use Rattle.scan.specs.declared.heads.Signed.{Signed}
 use Rattle.scan.specs.Heads.{starts, begins}
 use Rattle.scan.specs.Mantissa.{mantissa, behindSign}
 use Rattle.scan.specs.Scans.{Scans, Tells}

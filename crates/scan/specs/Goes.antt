@@ -4,8 +4,8 @@ use mathlib.Core.Bool.{false}
 use mathlib.Core.List.{List}
 use mathlib.Core.Path.{_≡_}
 use lib.ListN.{length, drop}
-use Rattle.scan.specs.declared.Held.{Held}
-use Rattle.scan.specs.declared.Run.{Run}
+use Rattle.scan.specs.declared.digits.Held.{Held}
+use Rattle.scan.specs.declared.digits.Run.{Run}
 use Rattle.scan.specs.Heads.{starts}
 use Rattle.scan.specs.Kept.{Kept}
 use Rattle.scan.specs.Passes.{Passes}

@@ -4,7 +4,7 @@ use mathlib.Core.List.{List}
 use mathlib.Core.Path.{_≡_}
 use lib.ListN.{length, drop}
 use Rattle.rules.specs.Bytes.{minus}
-use Rattle.scan.specs.declared.Signed.{Signed}
+use Rattle.scan.specs.declared.heads.Signed.{Signed}
 use Rattle.scan.specs.Heads.{begins}
 use Rattle.scan.specs.Mantissa.{behindSign}
 
