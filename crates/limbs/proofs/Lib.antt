@@ -3,7 +3,8 @@ pub mod Product
 pub mod Fives
 pub mod Ordered
 pub mod Parts
-pub mod Reading
+pub mod Digits
+pub mod Chunks
 pub mod Scaled
 pub mod Width
 pub mod Standing

@@ -1,2 +1,3 @@
 pub mod Total
 pub mod Stands
+pub mod Chunked

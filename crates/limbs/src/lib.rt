@@ -5,6 +5,7 @@ ghost use lib.ListN.{length, drop};
 ghost use Rattle.scan.specs.Mantissa.{mantissa};
 ghost use Rattle.limbs.specs.Total.{total, room, Becomes, Fits, Sides};
 ghost use Rattle.limbs.specs.Stands.{Stands};
+ghost use Rattle.limbs.specs.Chunked.{Ends, Chunked};
 
 // How a number stands to another.
 pub enum Order {
@@ -75,6 +76,61 @@ fn load(a: &mut [u32], m: u64)
     a[1] = (m / 4294967296) as u32;
 }
 
+// Whether a text's digits end before the place i: at the text's end, or at a byte that is neither a digit nor a point.
+fn ends(text: &[u8], i: usize) -> bool
+    requires { ⌜ i ≤ length (now text) ⌝ }
+    ensures { λ r. ⌜ Ends (now (text .entry)) i r ⌝ }
+{
+    if text.len() <= i {
+        return true;
+    }
+    let b = text[i];
+    if b < b'0' {
+        return b != b'.';
+    }
+    b'9' < b
+}
+
+// Below this a power of ten takes one more 0 in 32 bits.
+const FULL: u32 = 400000000;
+
+// Some digits of a text as a number, 10 to the power of how many they are, and the place behind them.
+struct Chunk {
+    number: u32,
+    power: u32,
+    next: usize,
+}
+
+// The digits of a text from a place on, nine at most.
+fn chunk_at(text: &[u8], from: usize) -> Chunk
+    requires { ⌜ from ≤ length (now text) ⌝ }
+    ensures { λ r. ⌜ Chunked (now (text .entry)) from (r .number) (r .power) (r .next) ⌝ }
+{
+    let mut number: u32 = 0;
+    let mut power: u32 = 1;
+    let mut next = from;
+    while power < FULL {
+        if ends(text, next) {
+            return Chunk {
+                number,
+                power,
+                next,
+            };
+        }
+        let b = text[next];
+        if b != b'.' {
+            number = number * 10 + (b - b'0') as u32;
+            power *= 10;
+        }
+        next += 1;
+    }
+    Chunk {
+        number,
+        power,
+        next,
+    }
+}
+
 // The number that a text's digits make, into limbs that are all 0.
 fn load_digits(a: &mut [u32], text: &[u8], from: usize)
     requires { ⌜ (total (now a) ≡ 0) × (from ≤ length (now text)) × (mantissa 0 (drop from (now text)) < room (now a)) ⌝ }
@@ -82,16 +138,12 @@ fn load_digits(a: &mut [u32], text: &[u8], from: usize)
 {
     let mut i = from;
     while i < text.len() {
-        let b = text[i];
-        if b'9' < b {
+        let c = chunk_at(text, i);
+        mul_add(a, c.power, c.number);
+        if c.power < FULL {
             return;
         }
-        if b'0' <= b {
-            mul_add(a, 10, (b - b'0') as u32);
-        } else if b != b'.' {
-            return;
-        }
-        i += 1;
+        i = c.next;
     }
 }
 

@@ -6,7 +6,7 @@ use native.Mathlib.Omega.{arith}
 use lib.ListN.{length, length-take, length-drop, drop}
 use lib.Seq.{length-take-le}
 use Rattle.limbs.specs.Total.{total, low, Sides}
-use Rattle.limbs.proofs.Reading.{digits-width}
+use Rattle.limbs.proofs.Digits.{digits-width}
 use Rattle.limbs.proofs.Standing.{with-twos}
 use Rattle.limbs.proofs.Width.{ready}
 use Rattle.limbs.proofs.against.Statement.{statement}
