@@ -1,13 +1,12 @@
 -- What the bytes of a text add to the number that its digits make. Assumes nothing.
-use mathlib.Core.Path.{_≡_, refl, sym, ap, _∙_}
+use mathlib.Core.Path.{_≡_, refl}
 use mathlib.Core.List.{List, [], _∷_}
 use Prim.Native.Nat.{ℕ, suc, _+_, _-_, _*_, _^_, _≤_, _<_}
 use native.Mathlib.Nat.{mul-suc, mul-le-mul-left, mul-le-mul-right}
 use native.Mathlib.Omega.{arith}
 use lib.Dec.{leb, ltb, eqb, le→leb, leb→le, lt→ltb, ltb→lt, eqb→eq}
-use lib.ListN.{getD, length, drop, length-drop, drop-of-length-le}
+use lib.ListN.{length, drop, length-drop}
 use lib.Pow.{pow-add, pow-pos}
-use lib.Seq.{drop-cons}
 use Rattle.laws.proofs.Branches.{either, taken, and-both, and-left, and-right}
 use Rattle.rules.specs.Bytes.{point}
 use Rattle.rules.specs.Reading.{isDigit, extended}

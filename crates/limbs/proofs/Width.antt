@@ -1,7 +1,7 @@
 -- How many bits a product takes at most. Assumes nothing.
 use mathlib.Core.Path.{_≡_, refl, _∙_}
 use Prim.Native.Nat.{ℕ, zero, suc, _+_, _*_, _/_, _^_, _≤_, _<_}
-use native.Mathlib.Nat.{le-refl, le-trans, lt-of-lt-of-le, mul-le-mul, mul-lt-mul-of-pos-right, mul-suc, one-le-pow, pow-le-pow-left, pow-le-pow-right, zero-lt-suc}
+use native.Mathlib.Nat.{le-refl, le-trans, lt-of-lt-of-le, mul-le-mul, mul-lt-mul-of-pos-right, mul-suc, one-le-pow, pow-le-pow-right, zero-lt-suc}
 use native.Mathlib.Omega.{arith}
 use lib.ListN.{length, take, replicate, length-replicate, getD-replicate}
 use lib.Pow.{pow-add, pow-pos}

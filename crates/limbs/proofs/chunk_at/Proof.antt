@@ -10,9 +10,6 @@ use Rattle.limbs.specs.Chunked.{Goes, Ends}
 use Rattle.limbs.proofs.Chunks.{Part, begin, one-digit, one-point, chunked}
 use Rattle.limbs.proofs.chunk_at.Statement.{statement}
 use Rattle.limbs.proofs.chunk_at.Tie as tie
-use Rattle.limbs.proofs.chunk_at.Reads as reads
-use Rattle.limbs.proofs.chunk_at.Lts as lts
-use Rattle.limbs.proofs.ends.Reads as ends-reads
 
 abbrev Inv-loop : tie.InvT-loop
 Inv-loop text from number₀ power₀ next₀ number power next = Part text from number power next

@@ -1,13 +1,10 @@
 -- `limbs::compare` meets its contract: the limbs passed are the same. Assumes nothing.
 use mathlib.Core.Path.{_≡_, sym}
-use Prim.Native.Nat.{_-_}
 use native.Mathlib.Omega.{arith}
 use lib.ListN.{length}
 use Rattle.limbs.proofs.Ordered.{Alike, begin, step, turned, less, equal}
 use Rattle.limbs.proofs.compare.Statement.{statement}
 use Rattle.limbs.proofs.compare.Tie as tie
-use Rattle.limbs.proofs.compare.Reads as reads
-use Rattle.limbs.proofs.compare.Lts as lts
 
 abbrev Inv-loop : tie.InvT-loop
 Inv-loop a b i₀ i = Alike a b i

@@ -1,6 +1,6 @@
 -- `limbs::five_power` meets its contract. Assumes nothing.
 use mathlib.Core.Path.{_≡_, refl, ap, _∙_}
-use Prim.Native.Nat.{ℕ, _-_, _*_, _+_, _^_, _≤_, _<_}
+use Prim.Native.Nat.{ℕ, _-_, _*_, _+_, _^_, _≤_}
 use native.Mathlib.Nat.{pow-suc, pow-le-pow-right, zero-lt-suc}
 use native.Mathlib.Numerals.{add-one}
 use native.Mathlib.Omega.{arith}

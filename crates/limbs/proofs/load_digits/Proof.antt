@@ -5,10 +5,6 @@ use lib.ListN.{length}
 use Rattle.limbs.proofs.Chunks.{Read, nothing-read, fits, more-read, last-read, all-read}
 use Rattle.limbs.proofs.load_digits.Statement.{statement}
 use Rattle.limbs.proofs.load_digits.Tie as tie
-use Rattle.limbs.proofs.load_digits.Reads as reads
-use Rattle.limbs.proofs.load_digits.Lts as lts
-use Rattle.limbs.proofs.mul_add.Reads as mul-add-reads
-use Rattle.limbs.proofs.chunk_at.Reads as chunk-at-reads
 
 abbrev Inv-loop : tie.InvT-loop
 Inv-loop a₀ text from i₀ a i = Read a₀ text from a i

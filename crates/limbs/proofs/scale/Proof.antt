@@ -7,38 +7,28 @@ use lib.Dec.{lit<}
 use lib.Pow.{pow-pos, shl-exact}
 use Rattle.limbs.proofs.Low.{same-room}
 use Rattle.limbs.proofs.Scaled.{without}
-use borrow.Author.Needs.{needs}
 use Rattle.limbs.proofs.scale.Statement.{statement}
 use Rattle.limbs.proofs.scale.Tie as tie
-use Rattle.limbs.proofs.scale.Reads as reads
-use Rattle.limbs.proofs.scale.Lts as lts
-use Rattle.limbs.proofs.mul_add.Reads as mul-add-reads
-use Rattle.limbs.proofs.times_fives.Reads as times-fives-reads
 
 -- `1 << t` is 2^t.
 one-shifted : (t : ℕ) → t < 32 → 1 * 2 ^ t % 2 ^ 32 ≡ 2 ^ t
 one-shifted t h = shl-exact {a = 1} 1 t 32 (lit< tt) (omega arith) ∙ one-mul (2 ^ t)
 
--- src/lib.rt:64:5
 times-fives-requires : tie.Need-times-fives-requires
 times-fives-requires c κs = without _ _ _ (pow-pos (c .before .before .args .twos)) (c .before .before .pre .1)
 
--- src/lib.rt:65:16
 shl-mul-add : tie.Need-shl-mul-add
-shl-mul-add c = search needs
+shl-mul-add c = omega arith
 
--- src/lib.rt:65:5
 mul-add-requires : tie.Need-mul-add-requires
 mul-add-requires c κs =
     let s = c .before .before .before .before .before .before in
     let g = c .before .before .before .times-fives in
     rw (one-shifted (s .args .twos) (s .pre .0), g .ensures .is, add-zero, same-room (g .last .0) (s .args .a .now) (g .ensures .same)) (s .pre .1)
 
--- src/lib.rt:59:1
 same-length : tie.Need-same-length
-same-length c = search needs
+same-length c = omega arith
 
--- src/lib.rt:59:1
 returns : tie.Need-returns
 returns c =
     let s = c .before .before .before .before .before .before .before .before .before in

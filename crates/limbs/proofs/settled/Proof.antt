@@ -1,85 +1,62 @@
 -- `limbs::settled` meets its contract: each part has the room that the whole has, and the zeros below it are the twos left out. Assumes nothing.
-use mathlib.Core.Path.{_≡_}
-use Prim.Native.Nat.{_/_, _*_, _+_, _≤_}
-use borrow.Author.Needs.{needs}
+use Prim.Native.Nat.{_*_, _+_, _≤_}
 use native.Mathlib.Omega.{arith}
 use lib.ListN.{length, length-take, length-drop}
 use Rattle.limbs.proofs.Parts.{part-fits, raised}
 use Rattle.limbs.proofs.Standing.{same}
 use Rattle.limbs.proofs.settled.Statement.{statement}
 use Rattle.limbs.proofs.settled.Tie as tie
-use Rattle.limbs.proofs.settled.Reads as reads
-use Rattle.limbs.proofs.settled.Lts as lts
-use Rattle.limbs.proofs.compare.Reads as compare-reads
-use Rattle.limbs.proofs.put_digits.Reads as put-digits-reads
-use Rattle.limbs.proofs.put_number.Reads as put-number-reads
 
--- src/lib.rt:141:17
 cast-first : tie.Need-cast-first
-cast-first c = search needs
+cast-first c = omega arith
 
--- src/lib.rt:142:18
 cast-second : tie.Need-cast-second
-cast-second c = search needs
+cast-second c = omega arith
 
--- src/lib.rt:143:16
 mul-put-digits : tie.Need-mul-put-digits
-mul-put-digits c = search needs
+mul-put-digits c = omega arith
 
--- src/lib.rt:143:16
 sub-put-digits : tie.Need-sub-put-digits
-sub-put-digits c = search needs
+sub-put-digits c = omega arith
 
--- src/lib.rt:143:16
 part-put-digits-start : tie.Need-part-put-digits-start
-part-put-digits-start c = search needs
+part-put-digits-start c = omega arith
 
--- src/lib.rt:143:16
 part-put-digits-end : tie.Need-part-put-digits-end
-part-put-digits-end c = search needs
+part-put-digits-end c = omega arith
 
--- src/lib.rt:143:5
 put-digits-requires : tie.Need-put-digits-requires
 put-digits-requires c κs =
     let s = c .before .before .before .before in
     (omega arith, s .pre .0, part-fits (s .pre .1 .left))
 
--- src/lib.rt:144:16
 mul-put-number : tie.Need-mul-put-number
-mul-put-number c = search needs
+mul-put-number c = omega arith
 
--- src/lib.rt:144:16
 sub-put-number : tie.Need-sub-put-number
-sub-put-number c = search needs
+sub-put-number c = omega arith
 
--- src/lib.rt:144:16
 part-put-number-start : tie.Need-part-put-number-start
-part-put-number-start c = search needs
+part-put-number-start c = omega arith
 
--- src/lib.rt:144:16
 part-put-number-end : tie.Need-part-put-number-end
-part-put-number-end c = search needs
+part-put-number-end c = omega arith
 
--- src/lib.rt:144:5
 put-number-requires : tie.Need-put-number-requires
 put-number-requires c κs =
     let s = c .before .before .before .before .before .before .before .before in
     let word : 64 + s .args .down ≤ 32 * length (s .args .b .now) = s .pre .1 .word in
     (omega arith, simp (length-take, length-drop) (omega arith), part-fits (s .pre .1 .right))
 
--- src/lib.rt:145:5
 compare-requires : tie.Need-compare-requires
-compare-requires c κs = search needs
+compare-requires c κs = omega arith
 
--- src/lib.rt:137:1
 same-length : tie.Need-same-length
-same-length c = search needs
+same-length c = omega arith
 
--- src/lib.rt:137:1
 same-length-2 : tie.Need-same-length-2
-same-length-2 c = search needs
+same-length-2 c = omega arith
 
--- src/lib.rt:137:1
 returns : tie.Need-returns
 returns c =
     let sides = c .before .before .before .before .before .before .before .before .before .before .before .before .before .before .pre .1 in

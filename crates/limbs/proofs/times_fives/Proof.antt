@@ -5,10 +5,6 @@ use Rattle.limbs.specs.Total.{total, Becomes}
 use Rattle.limbs.proofs.Fives.{Toward, begin, fits, step, finished}
 use Rattle.limbs.proofs.times_fives.Statement.{statement}
 use Rattle.limbs.proofs.times_fives.Tie as tie
-use Rattle.limbs.proofs.times_fives.Reads as reads
-use Rattle.limbs.proofs.times_fives.Lts as lts
-use Rattle.limbs.proofs.five_power.Reads as five-power-reads
-use Rattle.limbs.proofs.mul_add.Reads as mul-add-reads
 
 abbrev Inv-loop : tie.InvT-loop
 Inv-loop a₀ n left₀ a left = Toward a₀ n a left
