@@ -4,5 +4,6 @@ pub mod Going
 pub mod Exponents
 pub mod Signing
 pub mod Raising
+pub mod Parts
 pub mod Finding
 pub mod Words

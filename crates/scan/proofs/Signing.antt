@@ -11,7 +11,7 @@ use lib.ListN.{length, getD, drop, drop-of-length-le}
 use lib.Seq.{drop-drop}
 use Rattle.laws.proofs.Branches.{which}
 use Rattle.rules.specs.Bytes.{minus}
-use Rattle.rules.specs.Reading.{Unsigned, noNumber, powered, exponentFirst, exponentSign}
+use Rattle.rules.specs.Reading.{noNumber, powered, exponentFirst, exponentSign}
 use Rattle.scan.specs.declared.heads.Signed.{Signed}
 use Rattle.scan.specs.Heads.{begins}
 use Rattle.scan.specs.Mantissa.{behindSign}
@@ -44,17 +44,18 @@ module _ (t : List ℕ) (at : ℕ) where
   unfolding behindSign
   positive-at inside is = record { negative = sym is; inside = inside; rest = refl }
 
+-- What goes on behind a sign goes on with it.
+pub at-sign {ℓ} : {A : Type ℓ} (f : Bool → List ℕ → A) (b : ℕ) (bs : List ℕ) (m : Bool) →
+    elim m as (λ _. A) [ true ↦ f true bs | false ↦ f false (b ∷ bs) ] ≡ f m (behindSign m (b ∷ bs))
+unfolding behindSign
+at-sign f b bs true = refl
+at-sign f b bs false = refl
+
 -- An exponent is its sign and its digits.
-pub by-sign : (a n : ℕ) (t : List ℕ) → exponentSign a n t ≡ exponentFirst a n (begins minus t) (behindSign (begins minus t) t)
+by-sign : (a n : ℕ) (t : List ℕ) → exponentSign a n t ≡ exponentFirst a n (begins minus t) (behindSign (begins minus t) t)
 unfolding exponentSign exponentFirst begins behindSign
 by-sign a n [] = refl
-by-sign a n (b ∷ bs) = by-case (eqb b minus)
-  where
-    by-case : (m : Bool) →
-        elim m as (λ _. Unsigned) [ true ↦ exponentFirst a n true bs | false ↦ exponentFirst a n false (b ∷ bs) ] ≡
-        exponentFirst a n m (behindSign m (b ∷ bs))
-    by-case true = refl
-    by-case false = refl
+by-sign a n (b ∷ bs) = at-sign (exponentFirst a n) b bs (eqb b minus)
 
 module _ {t : List ℕ} {at e : ℕ} {x : Signed} (s : Signs t at x) (digits : Counts (drop (x .from) t) e) (a n : ℕ) where
   behind : exponentSign a n (drop at t) ≡ exponentFirst a n (x .negative) (drop (x .from) t)

@@ -2,13 +2,13 @@
 use mathlib.Core.Bool.{Bool, true, false, _&&_, true≢false}
 use mathlib.Core.List.{List, [], _∷_}
 use mathlib.Core.Path.{_≡_, refl, sym, ap, _∙_}
-use Prim.Native.Nat.{ℕ, suc, _+_, _-_, _≤_}
+use Prim.Native.Nat.{ℕ, suc, _+_, _≤_}
 use native.Mathlib.Omega.{arith}
 use borrow.Author.Tests.{eqb-true, ne-eqb}
 use lib.Dec.{eqb}
 use lib.ListN.{length, getD, drop, drop-of-length-le}
 use Rattle.rules.specs.Bytes.{bytes, minus}
-use Rattle.rules.specs.Reading.{Exact, refused, notANumber, infinite, isDigit, same, unsigned, withFraction, magnitudeOf, exact}
+use Rattle.rules.specs.Reading.{refused, notANumber, infinite, isDigit, same, unsigned, withFraction, magnitudeOf, exact}
 use Rattle.scan.specs.declared.Scanned.{Scanned}
 use Rattle.scan.specs.declared.Scanned.the-variants.{Refused, NotANumber, Infinite, Number}
 use Rattle.scan.specs.declared.heads.Signed.{Signed}
@@ -16,8 +16,9 @@ use Rattle.scan.specs.Heads.{starts, begins}
 use Rattle.scan.specs.Mantissa.{mantissa, behindSign}
 use Rattle.scan.specs.Scans.{Scans, Tells}
 use Rattle.scan.specs.Signs.{Signs}
-use Rattle.scan.proofs.Finding.{unsigned-none}
 use Rattle.scan.proofs.Passing.{cons}
+use Rattle.scan.proofs.Parts.{unsigned-none}
+use Rattle.scan.proofs.Signing.{at-sign}
 
 -- ---- comparing byte by byte
 
@@ -63,54 +64,57 @@ other-start (a ∷ as') b w letter digit = rw (ne-eqb a b (λ e. true≢false (s
 
 -- ---- the words
 
-nan : bytes "NaN" ≡ 78 ∷ 97 ∷ 78 ∷ []
-unfolding bytes
-nan = refl
+-- Their bytes.
+abbrev nan : List ℕ
+nan = 78 ∷ 97 ∷ 78 ∷ []
 
-inf : bytes "inf" ≡ 105 ∷ 110 ∷ 102 ∷ []
-unfolding bytes
-inf = refl
+abbrev inf : List ℕ
+inf = 105 ∷ 110 ∷ 102 ∷ []
 
-pub reads-nan : (t : List ℕ) → same t (78 ∷ 97 ∷ 78 ∷ []) ≡ true → exact t ≡ notANumber
+spells-nan : bytes "NaN" ≡ nan
+unfolding bytes
+spells-nan = refl
+
+spells-inf : bytes "inf" ≡ inf
+unfolding bytes
+spells-inf = refl
+
+pub reads-nan : (t : List ℕ) → same t nan ≡ true → exact t ≡ notANumber
 unfolding exact same
 reads-nan [] is = absurd (true≢false (sym is))
-reads-nan (b ∷ bs) is = rw (nan, is, exact)
+reads-nan (b ∷ bs) is = rw (spells-nan, is, exact)
 
 -- Any other text is its sign and its magnitude.
-signed : (t : List ℕ) → same t (78 ∷ 97 ∷ 78 ∷ []) ≡ false → exact t ≡ magnitudeOf (begins minus t) (behindSign (begins minus t) t)
+signed : (t : List ℕ) → same t nan ≡ false → exact t ≡ magnitudeOf (begins minus t) (behindSign (begins minus t) t)
 unfolding exact magnitudeOf withFraction unsigned begins behindSign same bytes
 signed [] other = refl
-signed (b ∷ bs) other = rw (other, exact) (by-case (eqb b minus))
-  where
-    by-case : (m : Bool) → _≡_ {A = Exact} (elim m [ true ↦ magnitudeOf true bs | false ↦ magnitudeOf false (b ∷ bs) ]) (magnitudeOf m (behindSign m (b ∷ bs)))
-    by-case true = refl
-    by-case false = refl
+signed (b ∷ bs) other = rw (other, exact) (at-sign magnitudeOf b bs (eqb b minus))
 
 module _ {t : List ℕ} {x : Signed} (s : Signs t 0 x) where
-  by-magnitude : same t (78 ∷ 97 ∷ 78 ∷ []) ≡ false → exact t ≡ magnitudeOf (x .negative) (drop (x .from) t)
+  by-magnitude : same t nan ≡ false → exact t ≡ magnitudeOf (x .negative) (drop (x .from) t)
   by-magnitude other = rw (s .rest, s .negative) (signed t other)
 
-  pub reads-infinite : same t (78 ∷ 97 ∷ 78 ∷ []) ≡ false → same (drop (x .from) t) (105 ∷ 110 ∷ 102 ∷ []) ≡ true → exact t ≡ infinite (x .negative)
+  pub reads-infinite : same t nan ≡ false → same (drop (x .from) t) inf ≡ true → exact t ≡ infinite (x .negative)
   unfolding magnitudeOf
-  reads-infinite other is = by-magnitude other ∙ rw (inf, is, magnitudeOf)
+  reads-infinite other is = by-magnitude other ∙ rw (spells-inf, is, magnitudeOf)
 
-  by-digits : same t (78 ∷ 97 ∷ 78 ∷ []) ≡ false → same (drop (x .from) t) (105 ∷ 110 ∷ 102 ∷ []) ≡ false →
+  by-digits : same t nan ≡ false → same (drop (x .from) t) inf ≡ false →
       exact t ≡ withFraction (x .negative) (unsigned (drop (x .from) t))
   unfolding magnitudeOf
-  by-digits other is = by-magnitude other ∙ rw (inf, is, magnitudeOf)
+  by-digits other is = by-magnitude other ∙ rw (spells-inf, is, magnitudeOf)
 
-  pub reads-nothing : same t (78 ∷ 97 ∷ 78 ∷ []) ≡ false → same (drop (x .from) t) (105 ∷ 110 ∷ 102 ∷ []) ≡ false →
+  pub reads-nothing : same t nan ≡ false → same (drop (x .from) t) inf ≡ false →
       starts (drop (x .from) t) ≡ false → exact t ≡ refused
   unfolding withFraction
   reads-nothing other is digit = by-digits other is ∙ rw (unsigned-none (drop (x .from) t) digit)
 
   -- A text with a digit behind its sign is no word.
   module _ (digit : starts (drop (x .from) t) ≡ true) where
-    not-nan : same t (78 ∷ 97 ∷ 78 ∷ []) ≡ false
+    not-nan : same t nan ≡ false
     unfolding begins same behindSign isDigit
     not-nan = by-sign t (begins minus t) refl (rw (s .rest, s .negative) at digit)
       where
-        by-sign : (u : List ℕ) (m : Bool) → begins minus u ≡ m → starts (behindSign m u) ≡ true → same u (78 ∷ 97 ∷ 78 ∷ []) ≡ false
+        by-sign : (u : List ℕ) (m : Bool) → begins minus u ≡ m → starts (behindSign m u) ≡ true → same u nan ≡ false
         by-sign [] m is first = refl
         by-sign (b ∷ bs) true is first = rw (eqb-true b minus is)
         by-sign (b ∷ bs) false is first = other-start (b ∷ bs) 78 (97 ∷ 78 ∷ []) refl first
