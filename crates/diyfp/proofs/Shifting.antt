@@ -1,16 +1,16 @@
 -- A pair shifted left at once, by the number of zeros above its highest bit set, is the rules' pair, shifted bit by bit. Assumes nothing.
 use mathlib.Core.Path.{_≡_, ap, _∙_}
-use Prim.Native.Nat.{ℕ, suc, _+_, _-_, _*_, _^_, _≤_, _<_}
-use native.Mathlib.Nat.{mul-le-mul-right, mul-lt-mul-of-pos-right, le-antisymm}
+use Prim.Native.Nat.{ℕ, _-_, _*_, _^_, _<_}
+use native.Mathlib.Nat.{mul-le-mul-right, le-antisymm}
 use native.Mathlib.Omega.{arith}
-use lib.Count.{leadingZeros, leading-le, leading-top}
+use lib.Count.{leadingZeros}
 use lib.IntN.{ℤ, pos, _-ℤ_}
-use lib.Pow.{pow-pos, pow-add}
 use mir.Facts.{toZ-pos}
-use mir.Syntax.{w32, w64}
-use mir.Val.{Fits, SFits, toZ}
+use mir.Syntax.{w32}
+use mir.Val.{SFits, toZ}
 use Rattle.laws.proofs.Powers.{two-halves}
 use Rattle.laws.proofs.Signed.{read}
+use Rattle.laws.proofs.Zeros.{Fills, fills, few-zeros}
 use Rattle.rules.specs.Width.{Width}
 use Rattle.rules.specs.Pattern.{Pair}
 use Rattle.rules.specs.Boundaries.{shifted}
@@ -20,37 +20,9 @@ use Rattle.powers.proofs.Small.{Small}
 use Rattle.diyfp.proofs.Lowering.{lowered, beside}
 use Rattle.diyfp.proofs.Standing.{kind}
 
--- Of n bits, a shift of f by z sets the highest, and loses none.
-pub record Fills (n f z : ℕ) : Type 0 where
-  pub top : 2 ^ (n - 1) ≤ f * 2 ^ z
-  pub fits : f * 2 ^ z < 2 ^ n
-
--- No two shifts do.
+-- No two shifts set the highest of n bits and lose none.
 one-distance : (n f y z : ℕ) → 2 ^ n ≡ 2 * 2 ^ (n - 1) → Fills n f y → Fills n f z → y ≡ z
 one-distance n f y z two p q = le-antisymm (no-further f n z y two (q .top) (p .fits)) (no-further f n y z two (p .top) (q .fits))
-
--- A shift by the number of leading zeros does.
-fills : (n f : ℕ) → 0 < f → f < 2 ^ n → Fills n f (leadingZeros n f)
-fills n f some fits =
-    let z = leadingZeros n f in
-    let t = leading-top n f some fits in
-    let j : ℕ = t .0 in
-    let all : z + suc j ≡ n = t .1 in
-    let half : 2 ^ (n - 1) ≡ 2 ^ j * 2 ^ z = ap (λ (x : ℕ). 2 ^ x) (omega (arith, all)) ∙ pow-add 2 j z in
-    let whole : 2 ^ n ≡ 2 ^ suc j * 2 ^ z = ap (λ (x : ℕ). 2 ^ x) (omega (arith, all)) ∙ pow-add 2 (suc j) z in
-    record { top = rw half (mul-le-mul-right (2 ^ z) (t .2)); fits = rw whole (mul-lt-mul-of-pos-right (t .3) (pow-pos z)) }
-
--- That number is small: with a bit set, of n bits fewer than n are zeros ..
-pub few-zeros : (n f : ℕ) → 0 < f → f < 2 ^ n → leadingZeros n f < n
-few-zeros n f some fits = let t = leading-top n f some fits in omega (arith, t .1)
-
--- .. a u64 holds it ..
-pub fits-u64 : (n f : ℕ) → n ≤ 64 → Fits w64 (leadingZeros n f)
-fits-u64 n f few = record { fits = omega (arith, leading-le n f) }
-
--- .. and an i32.
-pub fits-i32 : (n f : ℕ) → n ≤ 64 → SFits w32 (pos (leadingZeros n f))
-fits-i32 n f few = record { sfits = omega (arith, leading-le n f) }
 
 -- A pair shifted left by z at once.
 pub shiftedBy : ℕ → Pair → Pair

@@ -9,3 +9,4 @@ pub mod Closest
 pub mod Puts
 pub mod Rest
 pub mod Halves
+pub mod Zeros

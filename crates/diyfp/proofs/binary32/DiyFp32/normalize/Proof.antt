@@ -1,9 +1,10 @@
 -- `diyfp::binary32::DiyFp32::normalize` meets its contract. Assumes nothing.
 use native.Mathlib.Omega.{arith}
 use lib.Dec.{lit≤}
+use Rattle.laws.proofs.Zeros.{fits-i32, few-zeros}
 use Rattle.rules.specs.Width.{w32}
 use Rattle.powers.proofs.Small.{small32}
-use Rattle.diyfp.proofs.Shifting.{fits-i32, few-zeros, falls, fits, becomes}
+use Rattle.diyfp.proofs.Shifting.{falls, fits, becomes}
 use Rattle.diyfp.proofs.binary32.DiyFp32.normalize.Statement.{statement}
 use Rattle.diyfp.proofs.binary32.DiyFp32.normalize.Tie as tie
 

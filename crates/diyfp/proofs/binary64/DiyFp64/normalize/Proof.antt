@@ -1,9 +1,10 @@
 -- `diyfp::binary64::DiyFp64::normalize` meets its contract. Assumes nothing.
 use native.Mathlib.Omega.{arith}
 use lib.Dec.{lit≤}
+use Rattle.laws.proofs.Zeros.{fits-u64, fits-i32, few-zeros}
 use Rattle.rules.specs.Width.{w64}
 use Rattle.powers.proofs.Small.{small64}
-use Rattle.diyfp.proofs.Shifting.{fits-u64, fits-i32, few-zeros, falls, fits, becomes}
+use Rattle.diyfp.proofs.Shifting.{falls, fits, becomes}
 use Rattle.diyfp.proofs.binary64.DiyFp64.normalize.Statement.{statement}
 use Rattle.diyfp.proofs.binary64.DiyFp64.normalize.Tie as tie
 
