@@ -52,7 +52,9 @@ loop-again c =
     step _ _ (at-loop .loop .i) (at-loop .loop .inv) (omega (arith, c .if2 .left, c .before .if1 .left))
 
 returns-3 : tie.Need-returns-3 Inv-loop μ-loop
-returns-3 c = equal _ _ _ (c .before .before .pre) (omega arith) (c .before .loop .inv)
+returns-3 c =
+    let s = c .before .before in
+    omega (arith, equal (s .args .a .now) (s .args .b .now) _ (s .pre) (omega arith) (c .before .loop .inv))
 
 pub compare-spec : {M : Type 1} → statement M
 compare-spec =
