@@ -1,6 +1,6 @@
--- Digits read nine at a time into limbs. Assumes nothing.
+-- Digits read nine at a time. Assumes nothing.
 use mathlib.Core.Bool.{Bool, true, false, not}
-use mathlib.Core.Path.{_≡_, refl, sym, ap, _∙_}
+use mathlib.Core.Path.{_≡_, ap, _∙_}
 use mathlib.Core.List.{List, [], _∷_}
 use Prim.Native.Nat.{ℕ, suc, _+_, _-_, _*_, _≤_, _<_}
 use borrow.Author.Tests.{eqb-false}
@@ -11,9 +11,7 @@ use lib.Seq.{drop-cons}
 use Rattle.laws.proofs.Branches.{is-false}
 use Rattle.scan.specs.Mantissa.{mantissa}
 use Rattle.limbs.specs.Chunked.{Goes, Ends, full, Chunked}
-use Rattle.limbs.specs.Total.{total, room, Becomes}
-use Rattle.limbs.proofs.Digits.{grows, digit, at-point, past-end}
-use Rattle.limbs.proofs.Low.{same-room}
+use Rattle.limbs.proofs.Digits.{digit, at-point, past-end}
 
 -- At the text's end.
 pub at-end : (text : List ℕ) (i : ℕ) → length text ≤ i → (a : ℕ) → mantissa a (drop i text) ≡ a
@@ -30,6 +28,7 @@ module _ (text : List ℕ) (i : ℕ) (more : i < length text) where
   next-byte : (a : ℕ) → mantissa a (drop i text) ≡ mantissa a (here ∷ drop (suc i) text)
   next-byte a = rw (drop-cons text i 0 more)
 
+  -- Where it is neither a digit nor a point.
   other : (48 ≤ here → here ≤ 57 → ⊥) → (here ≡ 46 → ⊥) → (a : ℕ) → mantissa a (drop i text) ≡ a
   other no-digit no-point a = next-byte a ∙ past-end a here (drop (suc i) text) no-digit no-point
 
@@ -71,7 +70,6 @@ module _ {text : List ℕ} {from number power i : ℕ} (p : Part text from numbe
   -- One digit more.
   pub one-digit : (getD text i 0 ≡ 46 → ⊥) → Part text from (number * 10 + (getD text i 0 - 48)) (power * 10) (suc i)
   one-digit no-point =
-      let d = getD text i 0 - 48 in
       record {
         within = g .more;
         order = omega (arith, p .order);
@@ -99,36 +97,3 @@ module _ {text : List ℕ} {from number power i : ℕ} (p : Part text from numbe
 pub chunked : {text : List ℕ} {from number power i : ℕ} → Part text from number power i →
     (power < full → (a : ℕ) → mantissa a (drop i text) ≡ a) → Chunked text from number power i
 chunked p stops = record { within = p .within; reads = p .reads; ahead = λ l. p .ahead (omega arith); stops = stops }
-
--- The digits before the place i are in a, and those behind it are still to come.
-pub record Read (l text : List ℕ) (from : ℕ) (a : List ℕ) (i : ℕ) : Type 0 where
-  pub within : i ≤ length text
-  pub same : length a ≡ length l
-  pub rest : mantissa (total a) (drop i text) ≡ mantissa 0 (drop from text)
-
--- At first none.
-pub nothing-read : (l text : List ℕ) (from : ℕ) → from ≤ length text → total l ≡ 0 → Read l text from l from
-nothing-read l text from within e = record { within = within; same = refl; rest = rw e }
-
-module _ {l text : List ℕ} {from : ℕ} {a : List ℕ} {i number power next : ℕ} (r : Read l text from a i) (c : Chunked text i number power next) where
-  -- Some digits more have room ..
-  pub fits : mantissa 0 (drop from text) < room l → total a * power + number < room a
-  fits holds = omega (arith, grows (total a * power + number) (drop next text), c .reads (total a), r .rest, same-room a l (r .same))
-
-  module _ {b : List ℕ} (done : Becomes a b (total a * power + number)) where
-    -- .. and once they are in the limbs, the digits behind them are to come.
-    pub more-read : Read l text from b next
-    more-read =
-        record {
-          within = c .within;
-          same = done .same ∙ r .same;
-          rest = rw (done .is) (sym (c .reads (total a)) ∙ r .rest);
-        }
-
-    -- Where they end, all are there.
-    pub last-read : power < full → Becomes l b (mantissa 0 (drop from text))
-    last-read less = record { same = done .same ∙ r .same; is = sym (c .stops less (total b)) ∙ more-read .rest }
-
--- At the text's end.
-pub all-read : {l text : List ℕ} {from : ℕ} {a : List ℕ} {i : ℕ} → Read l text from a i → length text ≤ i → Becomes l a (mantissa 0 (drop from text))
-all-read {text = text} {a = a} {i = i} r end = record { same = r .same; is = sym (at-end text i end (total a)) ∙ r .rest }

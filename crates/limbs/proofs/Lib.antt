@@ -5,6 +5,7 @@ pub mod Ordered
 pub mod Parts
 pub mod Digits
 pub mod Chunks
+pub mod Reading
 pub mod Scaled
 pub mod Width
 pub mod Standing

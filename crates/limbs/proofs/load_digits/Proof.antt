@@ -2,7 +2,7 @@
 use Prim.Native.Nat.{_-_}
 use native.Mathlib.Omega.{arith}
 use lib.ListN.{length}
-use Rattle.limbs.proofs.Chunks.{Read, nothing-read, fits, more-read, last-read, all-read}
+use Rattle.limbs.proofs.Reading.{Read, begin, fits, step, ended, finished}
 use Rattle.limbs.proofs.load_digits.Statement.{statement}
 use Rattle.limbs.proofs.load_digits.Tie as tie
 
@@ -13,7 +13,7 @@ abbrev μ-loop : tie.MeasureT-loop
 μ-loop a₀ text from i₀ a i = length text - i
 
 loop-holds : tie.Need-loop-holds Inv-loop μ-loop
-loop-holds c = let s = c .before .before in nothing-read _ _ _ (s .pre .1) (s .pre .0)
+loop-holds c = let s = c .before .before in begin _ _ _ (s .pre .1) (s .pre .0)
 
 chunk-at-requires : tie.Need-chunk-at-requires Inv-loop μ-loop
 chunk-at-requires c κs = omega arith
@@ -26,7 +26,7 @@ mul-add-requires c κs =
 returns : tie.Need-returns Inv-loop μ-loop
 returns c =
     let done = c .before .before .before .before in
-    last-read (done .before .before .before .before .loop .inv) (done .before .before .chunk-at .ensures) (done .mul-add .ensures) (c .if1 .taken)
+    ended (done .before .before .before .before .loop .inv) (done .before .before .chunk-at .ensures) (done .mul-add .ensures) (c .if1 .taken)
 
 same-length : tie.Need-same-length Inv-loop μ-loop
 same-length c = returns c .same
@@ -40,10 +40,10 @@ loop-less c =
 loop-again : tie.Need-loop-again Inv-loop μ-loop
 loop-again c =
     let done = c .before .before .before .before in
-    more-read (done .before .before .before .before .loop .inv) (done .before .before .chunk-at .ensures) (done .mul-add .ensures)
+    step (done .before .before .before .before .loop .inv) (done .before .before .chunk-at .ensures) (done .mul-add .ensures)
 
 returns-2 : tie.Need-returns-2 Inv-loop μ-loop
-returns-2 c = all-read (c .before .loop .inv) (c .loop-test .left)
+returns-2 c = finished (c .before .loop .inv) (c .loop-test .left)
 
 same-length-2 : tie.Need-same-length-2 Inv-loop μ-loop
 same-length-2 c = returns-2 c .same
