@@ -1,0 +1,26 @@
+-- Between which patterns a number reads whose first digits are kept. Assumes nothing.
+use Prim.Native.Nat.{ℕ, _+_, _*_, _^_, _≤_}
+use mathlib.Core.Bool.{Bool, true, false}
+use mathlib.Core.Path.{_≡_}
+use Rattle.rules.specs.Width.{Width}
+use Rattle.rules.specs.Reading.{nearest}
+use Rattle.theorems.proofs.Readable.{Readable}
+use Rattle.scan.specs.Kept.{Kept}
+use Rattle.closest.specs.declared.Target.{Target}
+use Rattle.closest.specs.Targets.{Targets}
+
+-- How many units a product leaves open.
+abbrev pub Opens : Bool → ℕ → Type 0
+Opens true far = far ≡ 18
+Opens false far = far ≡ 2
+
+-- What a number reads as is one of the patterns from `least` to `most`.
+pub record Within (v least most : ℕ) : Type 0 where
+  pub above : least ≤ v
+  pub below : v ≤ most
+
+-- So it is for each number of which the digits w are kept, the last of them at the place of 10^(i - 342).
+abbrev pub Around : ℕ → Bool → ℕ → Target → ℕ → ℕ → Type 0
+Around digits more i t least most =
+    (w : Width) → Readable w → Targets t w → (a d up down : ℕ) → Kept a digits d more → i + down ≡ 342 + (up + d) →
+    Within (nearest w (a * 10 ^ up) (10 ^ down)) least most
