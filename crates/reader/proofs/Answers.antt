@@ -1,0 +1,43 @@
+-- From what a scan says of a text to what is answered, over the width. Assumes nothing.
+use mathlib.Core.Bool.{Bool}
+use mathlib.Core.List.{List}
+use mathlib.Core.Path.{_≡_, sym, ap, _∙_}
+use Prim.Native.Nat.{ℕ, _≤_, _<_}
+use lib.ListN.{length}
+use Rattle.rules.specs.Width.{Width}
+use Rattle.rules.specs.Reading.{Exact, refused, notANumber, infinite, number, exact, infinity, nearest, withSign}
+use Rattle.rules.specs.Reader.{Reading, quietNaN, answered, reading}
+use Rattle.theorems.proofs.Halfway.{no-more}
+use Rattle.theorems.proofs.ReadLength.{in-length}
+use Rattle.scan.specs.declared.Decimal.{Decimal}
+use Rattle.scan.specs.Scans.{Says}
+use Rattle.reader.specs.Reads.{Reads}
+
+-- A pattern that was read.
+abbrev Pattern : ℕ → Reading
+Pattern v = record { number = 0; pattern = v }
+
+module _ (w : Width) (t : List ℕ) (some : 0 < length t) (few : length t ≤ 64) where
+  -- What the text says is what is answered to.
+  saying : (x : Exact) → exact t ≡ x → answered w x ≡ reading w t
+  saying x says = sym (in-length w t some few ∙ ap (answered w) says)
+
+  pub nothing : exact t ≡ refused → record { number = 11; pattern = 0 } ≡ reading w t
+  unfolding answered
+  nothing says = saying refused says
+
+  pub a-nan : exact t ≡ notANumber → (v : ℕ) → v ≡ quietNaN w → Pattern v ≡ reading w t
+  unfolding answered
+  a-nan says v is = ap Pattern is ∙ saying notANumber says
+
+  pub an-infinity : (s : Bool) → exact t ≡ infinite s → (v m : ℕ) → m ≡ infinity w → v ≡ withSign w s m → Pattern v ≡ reading w t
+  unfolding answered
+  an-infinity s says v m top is = ap Pattern (is ∙ ap (withSign w s) top) ∙ saying (infinite s) says
+
+  pub a-number : (x : Decimal) → Says t x → (v m : ℕ) → Reads w t x m → v ≡ withSign w (x .negative) m → Pattern v ≡ reading w t
+  unfolding answered
+  a-number x s v m reads is = ap Pattern (is ∙ ap (withSign w (x .negative)) (reads s)) ∙ saying (number (x .negative) _ _) (s .says)
+
+-- A number reads as no pattern beyond the infinity.
+pub no-further : (w : Width) (t : List ℕ) (x : Decimal) (m top : ℕ) → Says t x → Reads w t x m → infinity w ≡ top → m ≤ top
+no-further w t x m top s reads is = rw (reads s, ← is) (no-more w _ _)

@@ -1,0 +1,3 @@
+pub mod Told
+pub mod Spanned
+pub mod Reads

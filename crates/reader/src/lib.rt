@@ -1,0 +1,148 @@
+// Reading a text as the nearest pattern of binary32 or binary64.
+use closest::Target;
+use fast::Quick;
+use scan::Decimal;
+use scan::Scanned;
+ghost use mathlib.Core.Path.{_≡_};
+ghost use Prim.Native.Nat.{_^_, _≤_, _<_};
+ghost use lib.ListN.{length};
+ghost use Rattle.rules.specs.Width.{Width, w32, w64};
+ghost use Rattle.rules.specs.Reading.{withSign};
+ghost use Rattle.rules.specs.Reader.{reading};
+ghost use Rattle.scan.specs.Scans.{Says};
+ghost use Rattle.closest.specs.Targets.{Targets, Sized};
+ghost use Rattle.reader.specs.Told.{told32, told64};
+ghost use Rattle.reader.specs.Reads.{Behind, Reads};
+ghost use Rattle.reader.specs.Spanned.{Spanned};
+
+// How reading as binary32 ended: with a pattern, or refused by the text's length or its form.
+pub enum Outcome32 {
+    Pattern(u32),
+    WrongLength,
+    WrongForm,
+}
+
+// How reading as binary64 ended.
+pub enum Outcome64 {
+    Pattern(u64),
+    WrongLength,
+    WrongForm,
+}
+
+// The longest text that is read.
+const LONGEST: usize = 64;
+
+// The places of the first and the last power of ten in the table.
+const FIRST: u32 = 9758;
+
+const LAST: u32 = 10408;
+
+// Where the digits of a text begin.
+fn behind_sign(negative: bool) -> usize
+    ensures { λ r. ⌜ Behind negative r ⌝ }
+{
+    if negative {
+        return 1;
+    }
+    0
+}
+
+// The pattern without a sign that a number reads as at a width, by the table, and where that leaves two open by exact comparison.
+fn magnitude(text: &[u8], x: Decimal, t: Target) -> u64
+    requires { ⌜ (0 < length (now text)) × (length (now text) ≤ 64) × Says (now text) x × Sized t ⌝ }
+    ensures { λ r. ⌜ ((w : Width) → Spanned w → Targets t w → Reads w (now (text .entry)) x r) ⌝ }
+{
+    let place = x.place;
+    if x.digits == 0 {
+        return 0;
+    }
+    if place < FIRST {
+        return 0;
+    }
+    if LAST < place {
+        return closest::infinity(t);
+    }
+    let ends = bounds::around(x.digits, x.more, (place - FIRST) as usize, t);
+    if ends.least == ends.most {
+        return ends.least;
+    }
+    let from = behind_sign(x.negative);
+    settle::settle(text, from, place - x.dropped, ends.least, ends.most, t)
+}
+
+// The pattern without a sign that a number reads as at 64 bits, the quick way where it serves.
+fn magnitude64(text: &[u8], x: Decimal) -> u64
+    requires { ⌜ (0 < length (now text)) × (length (now text) ≤ 64) × Says (now text) x ⌝ }
+    ensures { λ r. ⌜ Reads w64 (now (text .entry)) x r ⌝ }
+{
+    if !x.more {
+        let q = fast::quickly(x.digits, x.place);
+        if let Quick::Pattern(v) = q {
+            return v;
+        }
+    }
+    magnitude(text, x, closest::binary64())
+}
+
+// A pattern of 32 bits with a sign.
+fn signed32(negative: bool, v: u64) -> u32
+    requires { ⌜ v < 2 ^ 31 ⌝ }
+    ensures { λ r. ⌜ r ≡ withSign w32 negative v ⌝ }
+{
+    if negative {
+        return 2147483648 + v as u32;
+    }
+    v as u32
+}
+
+// A pattern of 64 bits with a sign.
+fn signed64(negative: bool, v: u64) -> u64
+    requires { ⌜ v < 2 ^ 63 ⌝ }
+    ensures { λ r. ⌜ r ≡ withSign w64 negative v ⌝ }
+{
+    if negative {
+        return 9223372036854775808 + v;
+    }
+    v
+}
+
+// Reads a text as binary32.
+pub fn read32(text: &[u8]) -> Outcome32
+    ensures { λ r. ⌜ told32 r ≡ reading w32 (now (text .entry)) ⌝ }
+{
+    if text.len() == 0 {
+        return Outcome32::WrongLength;
+    }
+    if LONGEST < text.len() {
+        return Outcome32::WrongLength;
+    }
+    let s = scan::scan(text);
+    match s {
+        Scanned::Refused => Outcome32::WrongForm,
+        Scanned::NotANumber => Outcome32::Pattern(0x7fc00000),
+        Scanned::Infinite(negative) => Outcome32::Pattern(signed32(negative, 0x7f800000)),
+        Scanned::Number(x) => Outcome32::Pattern(signed32(
+            x.negative,
+            magnitude(text, x, closest::binary32()),
+        )),
+    }
+}
+
+// Reads a text as binary64.
+pub fn read64(text: &[u8]) -> Outcome64
+    ensures { λ r. ⌜ told64 r ≡ reading w64 (now (text .entry)) ⌝ }
+{
+    if text.len() == 0 {
+        return Outcome64::WrongLength;
+    }
+    if LONGEST < text.len() {
+        return Outcome64::WrongLength;
+    }
+    let s = scan::scan(text);
+    match s {
+        Scanned::Refused => Outcome64::WrongForm,
+        Scanned::NotANumber => Outcome64::Pattern(0x7ff8000000000000),
+        Scanned::Infinite(negative) => Outcome64::Pattern(signed64(negative, 0x7ff0000000000000)),
+        Scanned::Number(x) => Outcome64::Pattern(signed64(x.negative, magnitude64(text, x))),
+    }
+}
