@@ -7,6 +7,7 @@ ghost use Rattle.rules.specs.Answer.{every, finiteOnly};
 ghost use Rattle.dtoa.specs.Meets.{told};
 ghost use Rattle.dtoa_c.specs.Exported.{Exported};
 
+pub mod reads;
 pub mod rows;
 
 // An answer: 0 and the length of the text, or the number of a refusal and 0.

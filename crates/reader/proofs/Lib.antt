@@ -1,3 +1,4 @@
 pub mod Extremes
 pub mod Answers
 pub mod Magnitudes
+pub mod Unique
