@@ -10,6 +10,10 @@ use Rattle.scan.specs.declared.Decimal.{Decimal}
 use Rattle.scan.specs.Mantissa.{mantissa, behindSign}
 use Rattle.scan.specs.Scans.{Says}
 
+-- A scanned number by its parts.
+abbrev pub decimal : Bool → ℕ → ℕ → Bool → ℕ → Decimal
+decimal negative digits dropped more place = record { negative = negative; digits = digits; dropped = dropped; more = more; place = place }
+
 -- The pattern v, without a sign, is the nearest to the number x that the text t says.
 abbrev pub Reads : Width → List ℕ → Decimal → ℕ → Type 0
 Reads w t x v = (s : Says t x) → v ≡ nearest w (mantissa 0 (behindSign (x .negative) t) * 10 ^ s .up) (10 ^ s .down)

@@ -12,7 +12,7 @@ ghost use Rattle.rules.specs.Reader.{reading};
 ghost use Rattle.scan.specs.Scans.{Says};
 ghost use Rattle.closest.specs.Targets.{Targets, Sized};
 ghost use Rattle.reader.specs.Told.{told32, told64};
-ghost use Rattle.reader.specs.Reads.{Behind, Reads};
+ghost use Rattle.reader.specs.Reads.{decimal, Behind, Reads};
 ghost use Rattle.reader.specs.Spanned.{Spanned};
 
 // How reading as binary32 ended: with a pattern, or refused by the text's length or its form.
@@ -48,12 +48,19 @@ fn behind_sign(negative: bool) -> usize
 }
 
 // The pattern without a sign that a number reads as at a width, by the table, and where that leaves two open by exact comparison.
-fn magnitude(text: &[u8], x: Decimal, t: Target) -> u64
-    requires { ⌜ (0 < length (now text)) × (length (now text) ≤ 64) × Says (now text) x × Sized t ⌝ }
-    ensures { λ r. ⌜ ((w : Width) → Spanned w → Targets t w → Reads w (now (text .entry)) x r) ⌝ }
+fn magnitude(
+    text: &[u8],
+    negative: bool,
+    digits: u64,
+    dropped: u32,
+    more: bool,
+    place: u32,
+    t: Target,
+) -> u64
+    requires { ⌜ (0 < length (now text)) × (length (now text) ≤ 64) × Says (now text) (decimal negative digits dropped more place) × Sized t ⌝ }
+    ensures { λ r. ⌜ ((w : Width) → Spanned w → Targets t w → Reads w (now (text .entry)) (decimal negative digits dropped more place) r) ⌝ }
 {
-    let place = x.place;
-    if x.digits == 0 {
+    if digits == 0 {
         return 0;
     }
     if place < FIRST {
@@ -62,26 +69,41 @@ fn magnitude(text: &[u8], x: Decimal, t: Target) -> u64
     if LAST < place {
         return closest::infinity(t);
     }
-    let ends = bounds::around(x.digits, x.more, (place - FIRST) as usize, t);
+    let ends = bounds::around(digits, more, (place - FIRST) as usize, t);
     if ends.least == ends.most {
         return ends.least;
     }
-    let from = behind_sign(x.negative);
-    settle::settle(text, from, place - x.dropped, ends.least, ends.most, t)
+    let from = behind_sign(negative);
+    settle::settle(text, from, place - dropped, ends.least, ends.most, t)
 }
 
 // The pattern without a sign that a number reads as at 64 bits, the quick way where it serves.
-fn magnitude64(text: &[u8], x: Decimal) -> u64
-    requires { ⌜ (0 < length (now text)) × (length (now text) ≤ 64) × Says (now text) x ⌝ }
-    ensures { λ r. ⌜ Reads w64 (now (text .entry)) x r ⌝ }
+fn magnitude64(
+    text: &[u8],
+    negative: bool,
+    digits: u64,
+    dropped: u32,
+    more: bool,
+    place: u32,
+) -> u64
+    requires { ⌜ (0 < length (now text)) × (length (now text) ≤ 64) × Says (now text) (decimal negative digits dropped more place) ⌝ }
+    ensures { λ r. ⌜ Reads w64 (now (text .entry)) (decimal negative digits dropped more place) r ⌝ }
 {
-    if !x.more {
-        let q = fast::quickly(x.digits, x.place);
+    if !more {
+        let q = fast::quickly(digits, place);
         if let Quick::Pattern(v) = q {
             return v;
         }
     }
-    magnitude(text, x, closest::binary64())
+    magnitude(
+        text,
+        negative,
+        digits,
+        dropped,
+        more,
+        place,
+        closest::binary64(),
+    )
 }
 
 // A pattern of 32 bits with a sign.
@@ -123,7 +145,15 @@ pub fn read32(text: &[u8]) -> Outcome32
         Scanned::Infinite(negative) => Outcome32::Pattern(signed32(negative, 0x7f800000)),
         Scanned::Number(x) => Outcome32::Pattern(signed32(
             x.negative,
-            magnitude(text, x, closest::binary32()),
+            magnitude(
+                text,
+                x.negative,
+                x.digits,
+                x.dropped,
+                x.more,
+                x.place,
+                closest::binary32(),
+            ),
         )),
     }
 }
@@ -143,6 +173,9 @@ pub fn read64(text: &[u8]) -> Outcome64
         Scanned::Refused => Outcome64::WrongForm,
         Scanned::NotANumber => Outcome64::Pattern(0x7ff8000000000000),
         Scanned::Infinite(negative) => Outcome64::Pattern(signed64(negative, 0x7ff0000000000000)),
-        Scanned::Number(x) => Outcome64::Pattern(signed64(x.negative, magnitude64(text, x))),
+        Scanned::Number(x) => Outcome64::Pattern(signed64(
+            x.negative,
+            magnitude64(text, x.negative, x.digits, x.dropped, x.more, x.place),
+        )),
     }
 }

@@ -1,24 +1,30 @@
 -- `reader::magnitude` meets its contract, each return by its own law. Assumes nothing.
 use native.Mathlib.Omega.{arith}
 use borrow.Author.Needs.{needs}
+use Rattle.scan.specs.declared.Decimal.{Decimal}
+use Rattle.reader.specs.Reads.{decimal}
 use Rattle.reader.proofs.Magnitudes.{without-digits, too-small, too-large, by-table, by-comparison}
 use Rattle.reader.proofs.magnitude.Statement.{statement}
 use Rattle.reader.proofs.magnitude.Tie as tie
 
+-- The number that is asked for.
+abbrev number : tie.Start → Decimal
+number s = decimal (s .args .negative) (s .args .digits) (s .args .dropped) (s .args .more) (s .args .place)
+
 returns : tie.Need-returns
-returns c = let s = c .before .before .before in λ w spanned is. without-digits w spanned (s .args .text .now) (s .args .x) (c .if1 .taken)
+returns c = let s = c .before .before in λ w spanned is. without-digits w spanned (s .args .text .now) (number s) (c .if1 .taken)
 
 returns-2 : tie.Need-returns-2
-returns-2 c = let s = c .before .before .before .before in λ w spanned is. too-small w spanned (s .args .text .now) (s .args .x) (c .if2 .taken)
+returns-2 c = let s = c .before .before .before in λ w spanned is. too-small w spanned (s .args .text .now) (number s) (c .if2 .taken)
 
 infinity-requires : tie.Need-infinity-requires
 infinity-requires c κs = search needs
 
 returns-3 : tie.Need-returns-3
 returns-3 c =
-    let s = c .before .before .before .before .before .before in
+    let s = c .before .before .before .before .before in
     λ w spanned is.
-    too-large w spanned (s .args .text .now) (s .args .x) (s .args .t) is (omega (arith, c .before .before .before .if1 .left)) (c .before .if3 .taken) _ (c .infinity .ensures)
+    too-large w spanned (s .args .text .now) (number s) (s .args .t) is (omega (arith, c .before .before .before .if1 .left)) (c .before .if3 .taken) _ (c .infinity .ensures)
 
 cast-around : tie.Need-cast-around
 cast-around c = search needs
@@ -28,9 +34,9 @@ around-requires c κs = search needs
 
 returns-4 : tie.Need-returns-4
 returns-4 c =
-    let s = c .before .before .before .before .before .before .before .before in
+    let s = c .before .before .before .before .before .before .before in
     λ w spanned is.
-    by-table w spanned (s .args .text .now) (s .args .x) (s .args .t) is _ _ (c .before .before .around .ensures) (c .before .before .before .before .if2 .left) (c .if4 .taken)
+    by-table w spanned (s .args .text .now) (number s) (s .args .t) is _ _ (c .before .before .around .ensures) (c .before .before .before .before .if2 .left) (c .if4 .taken)
 
 behind-sign-requires : tie.Need-behind-sign-requires
 behind-sign-requires c κs = search needs
@@ -43,10 +49,10 @@ settle-requires c κs = search needs
 
 returns-5 : tie.Need-returns-5
 returns-5 c =
-    let s = c .before .before .before .before .before .before .before .before .before .before .before in
+    let s = c .before .before .before .before .before .before .before .before .before in
     λ w spanned is.
-    by-comparison w spanned (s .args .text .now) (s .args .x) (s .args .t) is _ _ (c .before .before .before .before .before .around .ensures) (c .before .before .before .before .before .before .before .if2 .left)
-    (c .before .before .behind-sign .result) _ (c .before .before .behind-sign .ensures .is (s .args .text .now)) (c .settle .ensures)
+    by-comparison w spanned (s .args .text .now) (number s) (s .args .t) is _ _ (c .before .before .before .before .around .ensures) (c .before .before .before .before .before .before .if2 .left)
+    (c .before .behind-sign .result) _ (c .before .behind-sign .ensures .is (s .args .text .now)) (c .settle .ensures)
 
 pub magnitude-spec : {M : Type 1} → statement M
 magnitude-spec =

@@ -4,6 +4,7 @@ use mathlib.Core.Path.{_≡_, refl, sym, subst}
 use borrow.Author.Needs.{needs}
 use Rattle.rules.specs.Width.{w64}
 use Rattle.fast.specs.Quick.{Finds}
+use Rattle.reader.specs.Reads.{decimal}
 use Rattle.reader.proofs.Extremes.{spanned64}
 use Rattle.reader.proofs.Magnitudes.{by-product}
 use Rattle.reader.proofs.magnitude64.Statement.{statement}
@@ -21,9 +22,9 @@ enum-known-q c = search needs
 
 returns : tie.Need-returns
 returns c =
-    let s = c .before .before .before .before .before .before .before in
-    by-product (s .args .text .now) (s .args .x) _ (untrue (s .args .x .more) (c .before .before .before .before .if1 .taken))
-    (subst (Finds (s .args .x .digits) (s .args .x .place)) (c .before .q .given .1) (c .before .before .before .quickly .ensures))
+    let s = c .before .before .before .before .before .before in
+    by-product (s .args .text .now) (decimal (s .args .negative) (s .args .digits) (s .args .dropped) (s .args .more) (s .args .place)) _ (untrue (s .args .more) (c .before .before .before .before .if1 .taken))
+    (subst (Finds (s .args .digits) (s .args .place)) (c .before .q .given .1) (c .before .before .before .quickly .ensures))
 
 enum-told : tie.Need-enum-told
 enum-told c = search needs
