@@ -1,5 +1,6 @@
 /* Malekoco's C interface: prints binary32 and binary64 floating-point numbers as decimal text, byte for byte as the Rust
-   crate dtoa 1.0.11 does. The functions are proved; docs/PROMISES.md says what is promised of them.
+   crate dtoa 1.0.11 does, and reads decimal text as the nearest number. The functions are proved; docs/PROMISES.md says what is
+   promised of them.
 
    Link libdtoa_c.a, which `rt staticlib dtoa_c` puts into target/staticlib. It needs no other library, allocates nothing,
    keeps nothing from one call to the next, and may be called from several threads at once, each with a buffer of its own.
@@ -10,6 +11,11 @@
        memcpy(&bits, &x, sizeof bits);
        struct dtoa_printed printed = dtoa_format64(bits, text, sizeof text);
        printf("%.*s\n", (int)printed.length, (const char *)text);
+
+   A number that was printed is read as the very same:
+
+       struct dtoa_read64 read = dtoa_read64(text, printed.length);
+       if (read.number == DTOA_READ) memcpy(&x, &read.pattern, sizeof x);
 */
 #ifndef DTOA_H
 #define DTOA_H
@@ -83,6 +89,45 @@ struct dtoa_printed dtoa_format_finite64(uint64_t bits, uint8_t *buf, size_t len
 
    prints "1.0 -0.0 NaN". */
 struct dtoa_printed dtoa_format_row32(const uint32_t *patterns, size_t count, uint8_t *out, size_t len);
+
+/* A text that is read has at most this many bytes, and at least one. */
+#define DTOA_LONGEST 64
+
+/* What the number of a reading function's answer says. */
+enum {
+    DTOA_READ = 0,          /* the text is read */
+    DTOA_WRONG_LENGTH = 10, /* refused: the text has no byte, or more than DTOA_LONGEST. This is looked at first */
+    DTOA_WRONG_FORM = 11    /* refused: the text has not the form of a number */
+};
+
+/* What the reading functions answer. */
+struct dtoa_read32 {
+    uint32_t pattern; /* the bit pattern that is read; after a refusal 0, which is also the pattern of "0.0" */
+    uint32_t number;  /* one of the three above */
+};
+
+struct dtoa_read64 {
+    uint64_t pattern;
+    uint32_t number;
+};
+
+/* The two reading functions take a text that the caller lends: text points to len bytes, which are read and not changed, and is
+   not null even where len is 0. No zero byte is needed behind the text, and none is looked for.
+
+   A text has the form of a number where it is, from its first byte to its last and in ASCII: a `-` or none; one or more digits;
+   then nothing, or a `.` and one or more digits; then nothing, or an `e`, a `-` or none, and 1 to 4 digits. "NaN", "inf" and
+   "-inf" have it too. No other text has it: no space, no `+`, no `E`, no ".5" and no "5.". Every text that the functions above
+   print for one number has it.
+
+   A text is read as the number nearest to its value; where two are as near, as the one with the even significand. From half a
+   step above the largest number on that is the infinity, as in IEEE 754-2019. A zero has the sign of its text, also where the
+   value was only rounded to it. "NaN" is read as 7fc00000 or 7ff8000000000000. */
+
+/* Reads a text as a binary32 number. */
+struct dtoa_read32 dtoa_read32(const uint8_t *text, size_t len);
+
+/* Reads a text as a binary64 number. It is rounded once: this is not the number of dtoa_read32, widened. */
+struct dtoa_read64 dtoa_read64(const uint8_t *text, size_t len);
 
 #ifdef __cplusplus
 }
