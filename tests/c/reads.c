@@ -194,8 +194,8 @@ static void check(const char *name, const struct expected *e, uint32_t number, u
     int same = number == e->number && pattern == wanted;
     if (same && stayed(e->text, e->length)) return;
     int shown = e->length > SHOWN ? SHOWN : (int)e->length;
-    fprintf(stderr, "tests/c: %s of %zu bytes, \"%.*s\", is to give number %u and pattern %" PRIx64, name, e->length, shown, e->text,
-            (unsigned)e->number, wanted);
+    fprintf(stderr, "tests/c: %s of %zu bytes, \"%.*s\", is to give number %u and pattern %" PRIx64, name, e->length, shown,
+            e->text, (unsigned)e->number, wanted);
     if (same) {
         fprintf(stderr, " and does, but it changed a byte\n");
     } else {

@@ -1,5 +1,6 @@
 //! The functions of `libdtoa_c.a` (`include/dtoa.h`), and the one place that calls them: all of the crate's `unsafe` is here.
 
+use crate::read::ReadError;
 use crate::row::RowError;
 
 /// A buffer of so many bytes serves every number, and no shorter one does.
@@ -8,11 +9,21 @@ pub const ROOM: usize = 25;
 /// `DTOA_TOO_MANY`. A row has one other refusal.
 const TOO_MANY: u32 = 3;
 
+/// `DTOA_WRONG_LENGTH`. Reading has one other refusal.
+const WRONG_LENGTH: u32 = 10;
+
 /// `struct dtoa_printed`.
 #[repr(C)]
 struct Printed {
     number: u32,
     length: u32,
+}
+
+/// `struct dtoa_read32` and `struct dtoa_read64`.
+#[repr(C)]
+struct Read<Bits> {
+    pattern: Bits,
+    number: u32,
 }
 
 extern "C" {
@@ -21,6 +32,8 @@ extern "C" {
     fn dtoa_format_finite32(bits: u32, buf: *mut u8, len: usize) -> Printed;
     fn dtoa_format_finite64(bits: u64, buf: *mut u8, len: usize) -> Printed;
     fn dtoa_format_row32(patterns: *const u32, count: usize, out: *mut u8, len: usize) -> Printed;
+    fn dtoa_read32(text: *const u8, len: usize) -> Read<u32>;
+    fn dtoa_read64(text: *const u8, len: usize) -> Read<u64>;
 }
 
 /// One of the four functions for one number. None but the constants below can be made, since the field is private to this file.
@@ -67,6 +80,28 @@ pub fn print_row<'a>(numbers: &[f32], out: &'a mut [u8]) -> Result<&'a str, RowE
             0 => Ok(core::str::from_utf8_unchecked(out.get_unchecked(..printed.length as usize))),
             TOO_MANY => Err(RowError::TooMany),
             _ => Err(RowError::TooShort),
+        }
+    }
+}
+
+/// One of the two functions that read a text. None but the constants below can be made, since the field is private to this file.
+pub struct Reader<Bits>(unsafe extern "C" fn(*const u8, usize) -> Read<Bits>);
+
+pub const READ32: Reader<u32> = Reader(dtoa_read32);
+pub const READ64: Reader<u64> = Reader(dtoa_read64);
+
+impl<Bits> Reader<Bits> {
+    /// Reads a text, and hands out its pattern.
+    #[inline]
+    pub fn read(self, text: &[u8]) -> Result<Bits, ReadError> {
+        // SAFETY: the declarations above are those of include/dtoa.h. The function asks for `len` bytes at `text` that it may read
+        // while it runs: `text` has so many, and they are initialised. No slice's pointer is null, not even an empty one's. It
+        // writes to none of them, keeps no pointer, and does not unwind: it is proved to end, without a panic.
+        let read = unsafe { (self.0)(text.as_ptr(), text.len()) };
+        match read.number {
+            0 => Ok(read.pattern),
+            WRONG_LENGTH => Err(ReadError::WrongLength),
+            _ => Err(ReadError::WrongForm),
         }
     }
 }

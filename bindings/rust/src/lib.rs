@@ -1,6 +1,6 @@
-//! Prints `f32` and `f64` as decimal text, byte for byte as the crate dtoa 1.0.11 does, through the proved functions of
-//! `libdtoa_c.a`. What is proved of them stands in the repository's `docs/PROMISES.md`; that this file calls them rightly
-//! is not proved, and is short enough to be read.
+//! Prints `f32` and `f64` as decimal text, byte for byte as the crate dtoa 1.0.11 does, and reads decimal text as the nearest
+//! number, through the proved functions of `libdtoa_c.a`. What is proved of them stands in the repository's `docs/PROMISES.md`;
+//! that this file calls them rightly is not proved, and is short enough to be read.
 //!
 //! # Use
 //!
@@ -30,12 +30,13 @@
 //! assert_eq!(malekoco::format_row(&[0.0, 1.5, f32::INFINITY], &mut out), Ok("0.0 1.5 inf"));
 //! ```
 //!
-//! A printed number parses as the very same number:
+//! And [`parse`] reads a text. A printed number parses as the very same number, and so it does with the standard library:
 //!
 //! ```
 //! let height = 8848.86f32;
 //! let mut buffer = malekoco::Buffer::new();
 //! let text = buffer.format_finite(height).expect("a height is finite");
+//! assert_eq!(malekoco::parse::<f32>(text).unwrap().to_bits(), height.to_bits());
 //! assert_eq!(text.parse::<f32>().unwrap().to_bits(), height.to_bits());
 //! ```
 
@@ -43,10 +44,12 @@
 #![deny(missing_docs)]
 
 mod archive;
+mod read;
 mod row;
 
-use archive::{Entry, ROOM};
+use archive::{Entry, Reader, ROOM};
 
+pub use read::{parse, ReadError, LONGEST};
 pub use row::{format_row, row_room, RowError, ROW_LIMIT};
 
 /// Room for the text of one number.
@@ -111,7 +114,7 @@ impl Default for Buffer {
     }
 }
 
-/// A floating-point number that a [`Buffer`] prints: `f32` and `f64`, and no type outside this crate.
+/// A floating-point number that a [`Buffer`] prints and [`parse`] reads: `f32` and `f64`, and no type outside this crate.
 ///
 /// ```
 /// fn length<F: malekoco::Float>(number: F) -> usize {
@@ -136,13 +139,15 @@ impl Float for f64 {}
 
 /// What keeps [`Float`] to the two types: no one outside can name this trait.
 mod sealed {
-    use super::Entry;
+    use super::{Entry, Reader};
 
     pub trait Sealed: Copy {
         type Bits;
         const FORMAT: Entry<Self::Bits>;
         const FORMAT_FINITE: Entry<Self::Bits>;
+        const READ: Reader<Self::Bits>;
         fn bits(self) -> Self::Bits;
+        fn from_pattern(bits: Self::Bits) -> Self;
     }
 }
 
@@ -150,10 +155,16 @@ impl sealed::Sealed for f32 {
     type Bits = u32;
     const FORMAT: Entry<u32> = archive::FORMAT32;
     const FORMAT_FINITE: Entry<u32> = archive::FORMAT_FINITE32;
+    const READ: Reader<u32> = archive::READ32;
 
     #[inline]
     fn bits(self) -> u32 {
         self.to_bits()
+    }
+
+    #[inline]
+    fn from_pattern(bits: u32) -> f32 {
+        f32::from_bits(bits)
     }
 }
 
@@ -161,9 +172,15 @@ impl sealed::Sealed for f64 {
     type Bits = u64;
     const FORMAT: Entry<u64> = archive::FORMAT64;
     const FORMAT_FINITE: Entry<u64> = archive::FORMAT_FINITE64;
+    const READ: Reader<u64> = archive::READ64;
 
     #[inline]
     fn bits(self) -> u64 {
         self.to_bits()
+    }
+
+    #[inline]
+    fn from_pattern(bits: u64) -> f64 {
+        f64::from_bits(bits)
     }
 }
