@@ -4,6 +4,7 @@
 use crate::archive::Printed;
 use crate::lent::{fenced, Lent};
 use crate::plan::{LARGEST, ROOM};
+use crate::reads::Reads;
 use crate::report::Differences;
 use crate::width::{Entry, Width};
 
@@ -11,8 +12,9 @@ use crate::width::{Entry, Width};
 pub struct Caller<'a> {
     lent: Lent<{ fenced(LARGEST) }>,
     original: dtoa::Buffer,
+    pub reads: Reads<'a>,
     pub differences: &'a Differences,
-    pub calls: u64,
+    calls: u64,
 }
 
 const TOO_SHORT: Printed = Printed { number: 1, length: 0 };
@@ -24,7 +26,13 @@ fn printed(text: &str) -> Printed {
 
 impl<'a> Caller<'a> {
     pub fn new(differences: &'a Differences) -> Caller<'a> {
-        Caller { lent: Lent::new(), original: dtoa::Buffer::new(), differences, calls: 0 }
+        let reads = Reads::new(differences);
+        Caller { lent: Lent::new(), original: dtoa::Buffer::new(), reads, differences, calls: 0 }
+    }
+
+    /// The calls so far, those that read too.
+    pub fn calls(&self) -> u64 {
+        self.calls + self.reads.calls
     }
 
     #[inline(always)]
@@ -36,10 +44,11 @@ impl<'a> Caller<'a> {
 
     /// Makes both entries' calls for a pattern, in a buffer that serves and in one that is too short, and says whether number,
     /// length and text are right and the bytes near the text stayed. The crate is asked once: at a finite pattern its
-    /// `format` is its `format_finite`.
+    /// `format` is its `format_finite`. Its text, which ours is held against, is read back.
     #[inline(always)]
     pub fn agrees<W: Width>(&mut self, bits: u64, serving: usize, too_short: usize) -> bool {
         let text = W::original(Entry::Every, bits, &mut self.original);
+        self.reads.compare_printed::<W>(bits, text);
         let (answer, with_text) = (printed(text), self.lent.near_with(text));
         let untouched = self.lent.near_with("");
 
@@ -59,6 +68,12 @@ impl<'a> Caller<'a> {
             same &= self.lent.near_was(&untouched);
         }
         same
+    }
+
+    /// Reads back what is printed for a pattern.
+    pub fn read_back<W: Width>(&mut self, bits: u64) {
+        let text = W::original(Entry::Every, bits, &mut self.original);
+        self.reads.compare_printed::<W>(bits, text);
     }
 
     /// Whether the calls so far left every byte as it was that none of their texts covers. Puts right what they did not.

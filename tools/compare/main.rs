@@ -1,4 +1,5 @@
-//! Compares the archive with the unchanged crate, call by call: number, length, text, and the bytes that are to stay.
+//! Compares the archive with the unchanged crate, call by call: number, length, text, and the bytes that are to stay; and its
+//! reading with Rust's own.
 //!
 //! Usage: compare [--quick] [--seed NUMBER]
 //! Progress goes to standard error; differences and the summary to standard output. Exit status 1 if there is a difference.
@@ -6,13 +7,18 @@
 #[path = "../archive.rs"]
 mod archive;
 mod calls;
+mod damage;
+mod decimal;
+mod form;
 mod lent;
 mod options;
 mod plan;
 #[path = "../random.rs"]
 mod random;
+mod reads;
 mod report;
 mod rows;
+mod texts;
 mod width;
 
 use std::process::exit;
@@ -21,6 +27,7 @@ use std::thread;
 use std::time::{Duration, Instant};
 
 use calls::Caller;
+use damage::ALL_SHORT;
 use options::Options;
 use plan::{edges, rooms, serving, spread, too_short, Block, Plan, Sweep};
 use random::{random, subnormal};
@@ -28,7 +35,7 @@ use report::{duration, grouped, Differences};
 use rows::Rows;
 use width::{Binary32, Binary64, Width, ENTRIES};
 
-/// Each of the patterns in every buffer, at both entries.
+/// Each of the patterns in every buffer, at both entries, and its text read back.
 fn compare_edges<W: Width>(caller: &mut Caller) -> u64 {
     let mut patterns = 0;
     for bits in edges::<W>() {
@@ -37,13 +44,14 @@ fn compare_edges<W: Width>(caller: &mut Caller) -> u64 {
                 caller.inspect::<W>(entry, bits, room);
             }
         }
+        caller.read_back::<W>(bits);
         patterns += 1;
     }
     patterns
 }
 
-/// A block of patterns, each at both entries in a buffer that serves and in one that is too short. Where something differs,
-/// the block is gone through again, with a look at every byte after every call.
+/// A block of patterns, each at both entries in a buffer that serves and in one that is too short, and its text read back. Where
+/// something that is printed differs, the block is gone through again, with a look at every byte after every call.
 fn compare_block<W: Width>(caller: &mut Caller, first: u64, end: u64, pattern: impl Fn(u64) -> u64) {
     let mut same = true;
     for n in first..end {
@@ -77,7 +85,7 @@ fn work(plan: &Plan, next: &AtomicU64, done: &AtomicU64, differences: &Differenc
     loop {
         let i = next.fetch_add(1, Relaxed);
         if i >= plan.blocks() {
-            return caller.calls + rows.calls;
+            return caller.calls() + rows.calls;
         }
         let Block { sweep, first, end } = plan.block(i);
         match sweep {
@@ -85,7 +93,11 @@ fn work(plan: &Plan, next: &AtomicU64, done: &AtomicU64, differences: &Differenc
             Sweep::Random64 => compare_block::<Binary64>(&mut caller, first, end, |n| random(plan.seed, n)),
             Sweep::Subnormal64 => compare_block::<Binary64>(&mut caller, first, end, |n| n << 63 | subnormal(plan.seed, n, 52)),
             Sweep::Rows => (first..end).for_each(|n| rows.compare_random(plan.seed, n)),
+            Sweep::Texts => (first..end).for_each(|n| caller.reads.compare_text(plan.seed, n)),
+            Sweep::ShortTexts => (first..end).for_each(|n| caller.reads.compare_short(n)),
+            Sweep::DamagedTexts => (first..end).for_each(|n| caller.reads.compare_damaged(plan.seed, n)),
         }
+        caller.reads.look_around();
         done.fetch_add(1, Relaxed);
     }
 }
@@ -137,13 +149,50 @@ fn print_rows(plan: &Plan, edge_rows: u64) {
     println!("  each in a buffer of 0 bytes, of one too few, of 26 for each pattern, and of 1 to 64 more");
 }
 
+/// Says which texts were read.
+fn print_texts(plan: &Plan) {
+    println!("reading: the text of each pattern above at its width: the same pattern again, and one for all NaNs");
+    println!("  {} texts of 1 to 64 bytes against Rust's parse, at both widths:", grouped(plan.texts));
+    println!("    any digits with any point and exponent; numbers of 1e-400 to 1e400, many of them where a width ends;");
+    println!("    points halfway between neighbours, to the last digit or the last that fits, and a little off; zeros and names");
+    println!(
+        "  {} texts of 1 to 3 bytes{}, at both widths",
+        grouped(plan.short_texts),
+        if plan.short_texts == ALL_SHORT { ", which are all" } else { "" }
+    );
+    println!("  {} damaged texts of 0 to 256 bytes, at both widths", grouped(plan.damaged_texts));
+}
+
+/// A sample, or everything.
+fn plan(options: &Options) -> Plan {
+    let all = Plan {
+        seed: options.seed,
+        all32: 1 << 32,
+        random64: 500_000_000,
+        subnormal64: 50_000_000,
+        rows: 100_000,
+        texts: 100_000_000,
+        short_texts: ALL_SHORT,
+        damaged_texts: 100_000_000,
+    };
+    if !options.quick {
+        return all;
+    }
+    Plan {
+        all32: 1 << 24,
+        random64: 4_000_000,
+        subnormal64: 1_000_000,
+        rows: 1_000,
+        texts: 1_000_000,
+        short_texts: 1 << 20,
+        damaged_texts: 1_000_000,
+        ..all
+    }
+}
+
 fn main() {
     let options = Options::read();
-    let plan = if options.quick {
-        Plan { seed: options.seed, all32: 1 << 24, random64: 4_000_000, subnormal64: 1_000_000, rows: 1_000 }
-    } else {
-        Plan { seed: options.seed, all32: 1 << 32, random64: 500_000_000, subnormal64: 50_000_000, rows: 100_000 }
-    };
+    let plan = plan(&options);
     let threads = thread::available_parallelism().map_or(1, |n| n.get());
     let differences = Differences::new();
     let began = Instant::now();
@@ -153,10 +202,11 @@ fn main() {
     let edges32 = compare_edges::<Binary32>(&mut caller);
     let edges64 = compare_edges::<Binary64>(&mut caller);
     let edge_rows = rows.compare_edges();
-    let calls = caller.calls + rows.calls + compare_sweeps(&plan, threads, &differences);
+    let calls = caller.calls() + rows.calls + compare_sweeps(&plan, threads, &differences);
 
     print_patterns(&plan, edges32, edges64);
     print_rows(&plan, edge_rows);
+    print_texts(&plan);
     println!("compare: {} differences in {} calls, {}", grouped(differences.count()), grouped(calls), duration(began.elapsed()));
     exit(i32::from(differences.count() > 0));
 }

@@ -41,7 +41,7 @@ pub fn edges<W: Width>() -> impl Iterator<Item = u64> {
     magnitudes.flat_map(|magnitude| [magnitude, 1 << (W::BITS - 1) | magnitude])
 }
 
-/// The sweeps are cut into blocks of this many patterns, or of this many rows, which take about as long.
+/// The sweeps are cut into blocks of this many patterns or texts, or of this many rows, which take about as long.
 const BLOCK: u64 = 1 << 16;
 const ROW_BLOCK: u64 = 1 << 7;
 
@@ -52,22 +52,28 @@ pub enum Sweep {
     Random64,
     Subnormal64,
     Rows,
+    Texts,
+    ShortTexts,
+    DamagedTexts,
 }
 
-/// A block of a sweep: patterns or rows from `first` on, below `end`.
+/// A block of a sweep: patterns, rows or texts from `first` on, below `end`.
 pub struct Block {
     pub sweep: Sweep,
     pub first: u64,
     pub end: u64,
 }
 
-/// How many patterns or rows each sweep has.
+/// How many patterns, rows or texts each sweep has.
 pub struct Plan {
     pub seed: u64,
     pub all32: u64,
     pub random64: u64,
     pub subnormal64: u64,
     pub rows: u64,
+    pub texts: u64,
+    pub short_texts: u64,
+    pub damaged_texts: u64,
 }
 
 /// Of `all` blocks `few` are of one sweep, spread evenly. Says whether block number `i` is one of them, and which number it has
@@ -83,12 +89,15 @@ fn turn(i: u64, few: u64, all: u64) -> (bool, u64) {
 
 impl Plan {
     /// Each sweep, with how many it has, and how many of them make a block.
-    fn sweeps(&self) -> [(Sweep, u64, u64); 4] {
+    fn sweeps(&self) -> [(Sweep, u64, u64); 7] {
         [
             (Sweep::All32, self.all32, BLOCK),
             (Sweep::Random64, self.random64, BLOCK),
             (Sweep::Subnormal64, self.subnormal64, BLOCK),
             (Sweep::Rows, self.rows, ROW_BLOCK),
+            (Sweep::Texts, self.texts, BLOCK),
+            (Sweep::ShortTexts, self.short_texts, BLOCK),
+            (Sweep::DamagedTexts, self.damaged_texts, BLOCK),
         ]
     }
 

@@ -40,6 +40,13 @@ refusal, and a fence on either side of it. In the long runs the crate's `format`
 finite pattern it is its `format_finite`; at the patterns of every exponent each entry is held against the crate's own. A row is
 held against the crate's `format`, called once for each of its patterns, with one space between two texts; after each of its calls
 every byte of the buffer and of the fences is looked at.
+
+Reading is to give back the pattern of every text that is printed, and `7fc00000` or `7ff8000000000000` for a NaN's. For other texts
+what Rust's own `parse` reads is wanted; which texts are refused, and with which number, says a check of the form that is written
+for this comparison alone (`tools/compare/form.rs`), since `parse` takes more. A text stands between digits, so that a call which
+reads beyond an end of it answers otherwise. A damaged text is a good one with a byte changed, put in, doubled or left out, with an
+end cut off, with two bytes exchanged, or with zeros put in until it may be too long.
+
 [DIFFERENCES.md](DIFFERENCES.md) has what differs by intent.
 
 END

@@ -1,7 +1,7 @@
-//! The two widths: for each, the archive's functions and the crate's, side by side.
+//! The two widths: for each, the archive's functions and the crate's, and Rust's own for reading, side by side.
 
 use crate::archive;
-use crate::archive::Printed;
+use crate::archive::{Printed, Read64};
 
 /// Which of a width's two entries is called.
 #[derive(Clone, Copy, PartialEq, Eq)]
@@ -32,9 +32,28 @@ pub trait Width {
     /// What the crate prints. Its finite-only entry is not to be asked for a NaN or an infinity.
     fn original(entry: Entry, bits: u64, buffer: &mut dtoa::Buffer) -> &str;
 
+    /// The name of the archive's function that reads.
+    const READ: &'static str;
+
+    /// The pattern that `NaN` is read as: the exponent's bits and the first of the significand.
+    const NAN: u64 = ((1 << (Self::EXPONENT + 1)) - 1) << (Self::SIGNIFICAND - 1);
+
+    /// What the archive reads.
+    ///
+    /// # Safety
+    /// `text` points to `len` bytes that may be read.
+    unsafe fn read(text: *const u8, len: usize) -> Read64;
+
+    /// What Rust's `parse` reads. The text is to have a form that it takes.
+    fn parse(text: &str) -> u64;
+
     fn is_finite(bits: u64) -> bool {
         let exponent = bits >> Self::SIGNIFICAND & ((1 << Self::EXPONENT) - 1);
         exponent != (1 << Self::EXPONENT) - 1
+    }
+
+    fn is_nan(bits: u64) -> bool {
+        !Self::is_finite(bits) && bits & ((1 << Self::SIGNIFICAND) - 1) != 0
     }
 }
 
@@ -44,6 +63,7 @@ pub struct Binary64;
 impl Width for Binary32 {
     const BITS: u32 = 32;
     const SIGNIFICAND: u32 = 23;
+    const READ: &'static str = "dtoa_read32";
 
     fn name(entry: Entry) -> &'static str {
         match entry {
@@ -67,11 +87,23 @@ impl Width for Binary32 {
             Entry::FiniteOnly => buffer.format_finite(f32::from_bits(bits as u32)),
         }
     }
+
+    #[inline(always)]
+    unsafe fn read(text: *const u8, len: usize) -> Read64 {
+        let read = archive::dtoa_read32(text, len);
+        Read64 { pattern: u64::from(read.pattern), number: read.number }
+    }
+
+    #[inline(always)]
+    fn parse(text: &str) -> u64 {
+        u64::from(text.parse::<f32>().expect("a form that parse takes").to_bits())
+    }
 }
 
 impl Width for Binary64 {
     const BITS: u32 = 64;
     const SIGNIFICAND: u32 = 52;
+    const READ: &'static str = "dtoa_read64";
 
     fn name(entry: Entry) -> &'static str {
         match entry {
@@ -94,5 +126,15 @@ impl Width for Binary64 {
             Entry::Every => buffer.format(f64::from_bits(bits)),
             Entry::FiniteOnly => buffer.format_finite(f64::from_bits(bits)),
         }
+    }
+
+    #[inline(always)]
+    unsafe fn read(text: *const u8, len: usize) -> Read64 {
+        archive::dtoa_read64(text, len)
+    }
+
+    #[inline(always)]
+    fn parse(text: &str) -> u64 {
+        text.parse::<f64>().expect("a form that parse takes").to_bits()
     }
 }
