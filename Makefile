@@ -1,14 +1,15 @@
 # make run        prove and build the program print, and show patterns and their texts side by side
 # make test       the gate: the layout of every file, then `rt ci`, all proofs, must-fail edits and programs from nothing, and beside
-#                 it the archive called from C and Rust and held against the crate on a sample
+#                 it the archive called from C and Rust and held against the crate and Rust's parse on a sample
 # make test-c     call the archive from C, through include/dtoa.h
 # make test-rust  call the archive from Rust, through bindings/rust
 # make compare    call the archive and the unchanged crate with the same patterns: all of f32, 500 million random ones of f64,
-#                 50 million of its subnormals, and 100,000 rows of f32 (QUICK=1: a sample; SEED=NUMBER: the random ones;
-#                 REPORT=1: write docs/COMPARISON.md)
-# make bench      time our calls beside the crate's, and beside ryu's, fmt's and Dragonbox's where Debian's packages are installed
-#                 (REPORT=1: write docs/PERFORMANCE.md and docs/performance.svg; BEFORE=FOLDER: time the earlier libdtoa_c.a in
-#                 that folder too, and report CHANGE=TEXT, before and after)
+#                 50 million of its subnormals, and 100,000 rows of f32; read all their texts back but the rows', and 200 million
+#                 others beside Rust's parse (QUICK=1: a sample; SEED=NUMBER: the random ones; REPORT=1: write docs/COMPARISON.md)
+# make bench      time our calls beside the crate's, and beside ryu's, fmt's and Dragonbox's where Debian's packages are installed;
+#                 and our calls that read beside Rust's parse, and fast_float's where it is installed
+#                 (REPORT=1: write docs/PERFORMANCE.md and its plots; BEFORE=FOLDER: time the earlier libdtoa_c.a in that folder
+#                 too, and report CHANGE=TEXT, before and after)
 # make list       write the stored list of the program replay, crates/replay/data/list.txt, from the unchanged crate
 #
 # DTOA_LIB=FOLDER  has libdtoa_c.a; where it is not given, rt proves and makes target/staticlib/libdtoa_c.a

@@ -1,9 +1,10 @@
-//! Times our calls beside the crate's, and beside other libraries' where they are installed.
+//! Times our calls beside the crate's, and beside other libraries' where they are installed; and our calls that read beside Rust's
+//! `parse`.
 //!
-//! Usage: bench [--table FILE] [--before FILE] [--plot FILE]
-//! Prints nanoseconds per number, and the ratio to the crate; the last line has our worst ratio. Writes the same as a table in
-//! Markdown and as a plot in SVG, where a file is named, and our times before and after as a table, where an earlier archive is
-//! timed too.
+//! Usage: bench [--table FILE] [--plot FILE] [--reading-table FILE] [--reading-plot FILE] [--before FILE]
+//! Prints nanoseconds per number, and the ratio to the crate or to `parse`; the last two lines have our worst ratios. Writes the
+//! same as tables in Markdown and as plots in SVG, where files are named, and our times before and after as tables, where an
+//! earlier archive is timed too.
 
 #[path = "../archive.rs"]
 mod archive;
@@ -11,6 +12,9 @@ mod plot;
 mod printers;
 #[path = "../random.rs"]
 mod random;
+mod readers;
+mod results;
+mod texts;
 mod workloads;
 
 use std::fs;
@@ -20,33 +24,19 @@ use std::process::exit;
 use std::time::Instant;
 
 use printers::{Buffers, Printer, PRINTERS};
+use readers::READERS;
+use results::{Measured, Results, BASIS};
+use texts::Texts;
 use workloads::{workloads, Numbers, Workload, TURNS};
 
 /// So often all numbers of a workload are gone through.
 const ROUNDS: usize = 80;
 
-/// The places of the crate and of us among the printers.
-const CRATE: usize = 0;
-const OURS: usize = 1;
-
-/// The printers but an earlier archive of ours, which has the place after theirs.
-const COMPARED: usize = PRINTERS.len() - cfg!(before) as usize;
-const BEFORE: usize = COMPARED;
-
-/// What was measured of a workload: nanoseconds per number, for each printer.
-pub struct Measured {
-    pub name: &'static str,
-    pub nanoseconds: Vec<f64>,
-}
-
-impl Measured {
-    pub fn ratio(&self, printer: usize) -> f64 {
-        self.nanoseconds[printer] / self.nanoseconds[CRATE]
-    }
-}
+/// The texts of so many workloads, the first ones, are read.
+const READ_WORKLOADS: usize = 5;
 
 /// Nanoseconds per number of one printer in one turn.
-fn time(printer: &Printer, numbers: &Numbers, turn: Range<usize>, buffers: &mut Buffers) -> f64 {
+fn time_printer(printer: &Printer, numbers: &Numbers, turn: Range<usize>, buffers: &mut Buffers) -> f64 {
     let count = turn.len();
     let began = Instant::now();
     let bytes = match numbers {
@@ -59,57 +49,65 @@ fn time(printer: &Printer, numbers: &Numbers, turn: Range<usize>, buffers: &mut 
     nanoseconds / count as f64
 }
 
+/// Nanoseconds per text of one reader in one turn, and the sum of its patterns.
+fn time_reader(read: fn(&[&str]) -> u64, texts: &[&str]) -> (f64, u64) {
+    let began = Instant::now();
+    let sum = read(black_box(texts));
+    (began.elapsed().as_nanos() as f64 / texts.len() as f64, sum)
+}
+
 fn median(mut times: Vec<f64>) -> f64 {
     times.sort_by(f64::total_cmp);
     times[times.len() / 2]
 }
 
-/// Times the printers in turn, each with the same numbers before the next ones come and another one first in each round, and takes
-/// the median of each one's turns.
-fn measure(workload: &Workload) -> Measured {
-    let mut buffers = Buffers::new();
+/// Times so many printers or readers in turn, each with the same numbers before the next ones come and another one first in each
+/// round, and takes the median of each one's turns.
+fn measure(workload: &Workload, many: usize, mut time: impl FnMut(usize, Range<usize>) -> f64) -> Measured {
     let turn = workload.numbers.turn();
-    let mut times = vec![Vec::new(); PRINTERS.len()];
+    let mut times = vec![Vec::new(); many];
     for round in 0..ROUNDS {
         for from in (0..TURNS).map(|n| n * turn) {
-            for next in 0..PRINTERS.len() {
-                let printer = (round + next) % PRINTERS.len();
-                times[printer].push(time(&PRINTERS[printer], &workload.numbers, from..from + turn, &mut buffers));
+            for next in 0..many {
+                let which = (round + next) % many;
+                times[which].push(time(which, from..from + turn));
             }
         }
     }
     Measured { name: workload.name, nanoseconds: times.into_iter().map(median).collect() }
 }
 
-/// A printer's time at a workload, with its ratio to the crate.
-fn cell(measured: &Measured, printer: usize) -> String {
-    let nanoseconds = measured.nanoseconds[printer];
-    match printer {
-        CRATE => format!("{nanoseconds:.1}"),
-        _ => format!("{nanoseconds:.1} ({:.2})", measured.ratio(printer)),
-    }
+fn measure_printing(workload: &Workload) -> Measured {
+    let mut buffers = Buffers::new();
+    measure(workload, PRINTERS.len(), |which, turn| time_printer(&PRINTERS[which], &workload.numbers, turn, &mut buffers))
 }
 
-fn print_table(all: &[Measured]) {
-    print!("{:30}", "");
-    PRINTERS.iter().for_each(|printer| print!(" {:>14}", printer.name));
-    println!();
-    for measured in all {
-        print!("{:30}", measured.name);
-        (0..PRINTERS.len()).for_each(|printer| print!(" {:>14}", cell(measured, printer)));
-        println!();
-    }
+/// Times the readers with our texts of the numbers. All are to read the same numbers.
+fn measure_reading(workload: &Workload) -> Measured {
+    let texts = Texts::new(&workload.numbers);
+    let texts = texts.slices();
+    let readers: Vec<_> = READERS
+        .iter()
+        .map(|reader| if matches!(workload.numbers, Numbers::F64(_)) { reader.read64 } else { reader.read32 })
+        .collect();
+    let turn = workload.numbers.turn();
+    let sums: Vec<u64> = texts.chunks(turn).map(readers[BASIS]).collect();
+    measure(workload, readers.len(), |which, range| {
+        let wanted = sums[range.start / turn];
+        let (nanoseconds, sum) = time_reader(readers[which], &texts[range]);
+        assert!(sum == wanted, "{} read other numbers than {}", READERS[which].name, READERS[BASIS].name);
+        nanoseconds
+    })
 }
 
-/// A table in Markdown of some of the printers, with a name for each.
-fn markdown(all: &[Measured], columns: &[(&str, usize)]) -> String {
-    let row = |first: &str, cells: Vec<String>| format!("| {first} | {} |\n", cells.join(" | "));
-    let mut table = row("", columns.iter().map(|(name, _)| name.to_string()).collect());
-    table += &row("---", vec!["---:".to_string(); columns.len()]);
-    for measured in all {
-        table += &row(measured.name, columns.iter().map(|(_, printer)| cell(measured, *printer)).collect());
+/// Measures workloads, and says which one it is at.
+fn measure_all(what: &str, workloads: &[Workload], measure: fn(&Workload) -> Measured) -> Vec<Measured> {
+    let mut all = Vec::new();
+    for (at, workload) in workloads.iter().enumerate() {
+        eprintln!("bench: {what}, workload {} of {}: {}", at + 1, workloads.len(), workload.name);
+        all.push(measure(workload));
     }
-    table
+    all
 }
 
 fn write(path: &str, contents: String) {
@@ -127,8 +125,10 @@ fn fail(message: &str) -> ! {
 #[derive(Default)]
 struct Files {
     table: Option<String>,
-    before: Option<String>,
     plot: Option<String>,
+    reading_table: Option<String>,
+    reading_plot: Option<String>,
+    before: Option<String>,
 }
 
 fn files() -> Files {
@@ -137,9 +137,14 @@ fn files() -> Files {
     while let Some(word) = words.next() {
         match (word.as_str(), words.next()) {
             ("--table", Some(file)) => files.table = Some(file),
-            ("--before", Some(file)) if cfg!(before) => files.before = Some(file),
             ("--plot", Some(file)) => files.plot = Some(file),
-            _ => fail("usage: bench [--table FILE] [--before FILE] [--plot FILE], --before with an earlier archive alone"),
+            ("--reading-table", Some(file)) => files.reading_table = Some(file),
+            ("--reading-plot", Some(file)) => files.reading_plot = Some(file),
+            ("--before", Some(file)) if cfg!(before) => files.before = Some(file),
+            _ => fail(
+                "usage: bench [--table FILE] [--plot FILE] [--reading-table FILE] [--reading-plot FILE] [--before FILE], \
+                 --before with an earlier archive alone",
+            ),
         }
     }
     files
@@ -148,23 +153,37 @@ fn files() -> Files {
 fn main() {
     let files = files();
     let workloads = workloads();
-    let mut all = Vec::new();
-    for (at, workload) in workloads.iter().enumerate() {
-        eprintln!("bench: workload {} of {}: {}", at + 1, workloads.len(), workload.name);
-        all.push(measure(workload));
+    let printing = Results {
+        basis: "the crate",
+        names: PRINTERS.iter().map(|printer| printer.name).collect(),
+        compared: PRINTERS.len() - usize::from(cfg!(before)),
+        all: measure_all("printing", &workloads, measure_printing),
+    };
+    let reading = Results {
+        basis: "Rust's parse",
+        names: READERS.iter().map(|reader| reader.name).collect(),
+        compared: READERS.len() - usize::from(cfg!(before_reads)),
+        all: measure_all("reading", &workloads[..READ_WORKLOADS], measure_reading),
+    };
+    for (what, results) in [("printing", &printing), ("reading", &reading)] {
+        let (turns, basis) = (TURNS * ROUNDS, results.basis);
+        println!("{what}: nanoseconds per number, median of {turns} turns; in brackets the ratio to {basis}");
+        results.print_table();
     }
-    println!("nanoseconds per number, median of {} turns; in brackets the ratio to the crate", TURNS * ROUNDS);
-    print_table(&all);
-    if let Some(file) = files.table {
-        let columns: Vec<_> = (0..COMPARED).map(|printer| (PRINTERS[printer].name, printer)).collect();
-        write(&file, markdown(&all, &columns));
+    for (file, results) in [(files.table, &printing), (files.reading_table, &reading)] {
+        if let Some(file) = file {
+            write(&file, results.table());
+        }
+    }
+    for (file, results) in [(files.plot, &printing), (files.reading_plot, &reading)] {
+        if let Some(file) = file {
+            write(&file, plot::svg(results));
+        }
     }
     if let Some(file) = files.before {
-        write(&file, markdown(&all, &[("crate", CRATE), ("before", BEFORE), ("after", OURS)]));
+        let tables: Vec<_> = [&printing, &reading].into_iter().filter_map(Results::before_and_after).collect();
+        write(&file, tables.join("\n"));
     }
-    if let Some(file) = files.plot {
-        write(&file, plot::svg(&all));
-    }
-    let worst = all.iter().max_by(|a, b| a.ratio(OURS).total_cmp(&b.ratio(OURS))).expect("there are workloads");
-    println!("worst ratio to the crate: {:.2} ({})", worst.ratio(OURS), worst.name);
+    println!("{}", printing.worst());
+    println!("{}", reading.worst());
 }

@@ -1,6 +1,7 @@
 #!/bin/sh
-# make bench: times our calls and the unchanged crate's, and those of ryu, fmt and Dragonbox where Debian's packages are installed.
-# REPORT=1 writes docs/PERFORMANCE.md and docs/performance.svg from the run.
+# make bench: times our calls and the unchanged crate's, and those of ryu, fmt and Dragonbox where Debian's packages are installed;
+# and our calls that read and Rust's parse, and fast_float's where it is installed.
+# REPORT=1 writes docs/PERFORMANCE.md, docs/performance.svg and docs/reading.svg from the run.
 # BEFORE=FOLDER also times the libdtoa_c.a in that folder, an earlier one, and reports the times before and after; CHANGE says in the
 # report what lies between the two. A report without BEFORE keeps what the last one with it had to say.
 set -eu
@@ -77,7 +78,21 @@ else
     timed "Dragonbox $version" '--cfg dragonbox -C link-arg=target/tools/dragonbox.o -C link-arg=-ldragonbox_to_chars -l stdc++'
 fi
 
-if [ -n "$before" ]; then words="$words --cfg before -L native=target/tools -l static=before"; fi
+fast_float=$(first /usr/include/fast_float/fast_float.h)
+if [ -z "$fast_float" ]; then
+    untimed fast_float "Debian's libfast-float-dev is not installed"
+elif ! compile fast_float; then
+    untimed fast_float 'tools/bench/fast_float.cpp does not compile'
+else
+    version=$(sed -n 's/^set(PACKAGE_VERSION "\(.*\)")$/\1/p' /usr/lib/cmake/FastFloat/FastFloatConfigVersion.cmake || true)
+    timed "fast_float $version" '--cfg fast_float -C link-arg=target/tools/fast_float.o -l stdc++'
+fi
+
+if [ -n "$before" ]; then
+    words="$words --cfg before -L native=target/tools -l static=before"
+    # an earlier archive may not read yet
+    if grep -q '^dtoa_read64 ' target/tools/before.names; then words="$words --cfg before_reads"; fi
+fi
 # shellcheck disable=SC2086
 rustc --edition 2021 -C opt-level=3 --extern dtoa=target/tools/libdtoa.rlib -L "native=$library" -l static=dtoa_c $words \
     -o target/tools/bench tools/bench/main.rs
@@ -87,14 +102,15 @@ echo "bench: $load"
 if [ -z "${REPORT:-}" ]; then exec target/tools/bench; fi
 
 page=docs/PERFORMANCE.md
-target/tools/bench --table target/tools/bench.md ${before:+--before target/tools/before.md} --plot docs/performance.svg >target/tools/bench.out
+target/tools/bench --table target/tools/bench.md --plot docs/performance.svg --reading-table target/tools/reading.md \
+    --reading-plot docs/reading.svg ${before:+--before target/tools/before.md} >target/tools/bench.out
 cat target/tools/bench.out
 sum() { sha256sum "$1/libdtoa_c.a" | cut -c1-16; }
 if [ -n "$before" ]; then
     {
         printf '## Before and after%s\n\n' "${CHANGE:+: $CHANGE}"
         cat <<'END'
-Our calls of two archives, in one run with the crate's, as above.
+Our calls of two archives, in one run with the crate's, as above, and with Rust's `parse` where both archives read.
 
 END
         cat target/tools/before.md
@@ -107,7 +123,9 @@ fi
     cat <<'END'
 # Performance
 
-`make bench REPORT=1` wrote this page and its plot; nothing on it is written by hand.
+`make bench REPORT=1` wrote this page and its plots; nothing on it is written by hand.
+
+## Printing
 
 Nanoseconds per number, and in brackets the ratio to the crate dtoa 1.0.11; below 1 is faster than the crate. A printer
 prints 4,000 numbers, one in a call, into a buffer that is never cleared (ours and the crate into the same 25 bytes), then the next
@@ -121,16 +139,35 @@ that is cleared before each row and has its room already, a C++ library prints s
 
 END
     cat target/tools/bench.md
-    printf '\n![The same figures as bars](performance.svg)\n\n'
+    cat <<'END'
+
+![The same figures as bars](performance.svg)
+
+## Reading
+
+Nanoseconds per number, and in brackets the ratio to `parse` of Rust's standard library; below 1 is faster than it. The texts are
+those that we print for the numbers of the first five lines above, NaNs and infinities among the random bits. A reader is given
+the bytes of a text where they stand and how many they are, one text in a call; the readers take turns as the printers do, and all
+read the same patterns.
+
+END
+    cat target/tools/reading.md
+    cat <<'END'
+
+![The same figures as bars](reading.svg)
+
+## The run
+
+END
     about_this_run | sed 's/^/    /'
     printf '    other libraries: %s\n' "${told#, }"
     printf '    %s\n' "$load"
-    printf '    %s\n' "$(tail -n 1 target/tools/bench.out)"
+    tail -n 2 target/tools/bench.out | sed 's/^/    /'
     if [ -s target/tools/change.md ]; then
         echo
         cat target/tools/change.md
     fi
 } >target/tools/page.md
 mv target/tools/page.md "$page"
-echo "bench: wrote $page and docs/performance.svg"
-tail -n 1 target/tools/bench.out
+echo "bench: wrote $page, docs/performance.svg and docs/reading.svg"
+tail -n 2 target/tools/bench.out
