@@ -2,8 +2,8 @@
 
 use std::iter;
 
+use crate::draws::Draws;
 use crate::form::LONGEST;
-use crate::texts::Draws;
 
 /// No damaged text is longer.
 pub const LARGEST: usize = 4 * LONGEST;

@@ -1,5 +1,5 @@
-//! The form of a text that is read, as include/dtoa.h has it: another check than the archive's own, which goes through the bytes
-//! one by one.
+//! The form of a text that is read, as include/dtoa.h says it. This check is written from there alone, and shares nothing with the
+//! archive's own.
 
 /// The numbers of reading's answers.
 pub const READ: u32 = 0;

@@ -9,6 +9,7 @@ mod archive;
 mod calls;
 mod damage;
 mod decimal;
+mod draws;
 mod form;
 mod lent;
 mod options;
@@ -20,6 +21,7 @@ mod report;
 mod rows;
 mod texts;
 mod width;
+mod written;
 
 use std::process::exit;
 use std::sync::atomic::{AtomicU64, Ordering::Relaxed};

@@ -5,9 +5,10 @@ use std::str;
 
 use crate::archive::Read64;
 use crate::damage::{damage, short, LARGEST};
+use crate::draws::Draws;
 use crate::form;
 use crate::report::Differences;
-use crate::texts::{Draws, Texts};
+use crate::texts::Texts;
 use crate::width::{Binary32, Binary64, Width};
 
 /// What makes the numbers of the damaged texts others than those of the good ones.

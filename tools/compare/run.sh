@@ -29,7 +29,7 @@ status=0
 cat target/tools/compare.out
 {
     cat <<'END'
-# Comparison with the unchanged crate
+# Comparison with the unchanged crate, and of reading with Rust's
 
 `make compare REPORT=1` wrote this page; nothing on it is written by hand.
 
