@@ -30,13 +30,11 @@ dropped-long : (a digits d : ℕ) → Kept a digits d true → 10 ^ 18 ≤ digit
 dropped-long a digits zero kept = absurd (omega (arith, kept .above refl, kept .high))
 dropped-long a digits (suc d) kept = kept .full (omega arith)
 
--- A sum without room, halved and rounded up, is no smaller.
-pub halved : (w : Width) → Readable w → (m far e : ℕ) → far ≤ 18 →
-    nearest w ((m + far) * 2 ^ e) (2 ^ 1200) ≤ nearest w ((m / 2 + 10) * 2 ^ (e + 1)) (2 ^ 1200)
-halved w r m far e few =
-    let more : m + far ≤ (m / 2 + 10) * 2 = omega arith in
-    let twice : (m + far) * 2 ^ e ≤ (m / 2 + 10) * 2 ^ (e + 1) = rw (pow-add 2 e 1) (omega (arith, mul-le-mul-right (2 ^ e) more)) in
-    nearest-mono w r ((m + far) * 2 ^ e) (2 ^ 1200) ((m / 2 + 10) * 2 ^ (e + 1)) (2 ^ 1200) (pow-pos 1200) (pow-pos 1200) (mul-le-mul-right (2 ^ 1200) twice)
+-- A sum is no larger than twice a number that takes its place one binary place up.
+pub halved : (w : Width) → Readable w → (n h e : ℕ) → n ≤ h * 2 → nearest w (n * 2 ^ e) (2 ^ 1200) ≤ nearest w (h * 2 ^ (e + 1)) (2 ^ 1200)
+halved w r n h e more =
+    let twice : n * 2 ^ e ≤ h * 2 ^ (e + 1) = rw (pow-add 2 e 1) (omega (arith, mul-le-mul-right (2 ^ e) more)) in
+    nearest-mono w r (n * 2 ^ e) (2 ^ 1200) (h * 2 ^ (e + 1)) (2 ^ 1200) (pow-pos 1200) (pow-pos 1200) (mul-le-mul-right (2 ^ 1200) twice)
 
 module _ (digits i x m : ℕ) (some : 0 < digits) (fits : digits < 2 ^ 64) (x-fits : x < 2 ^ 64) (l : Leading i x)
     (product : m ≡ digits * 2 ^ leadingZeros 64 digits % 2 ^ 64 * x / 2 ^ 64) where

@@ -1,7 +1,8 @@
 // Which of the patterns from one to another a decimal number reads as, by exact comparison with the midpoints between them.
 use closest::Target;
 use limbs::Order;
-ghost use Prim.Native.Nat.{_*_, _^_, _≤_, _<_};
+ghost use mathlib.Core.Path.{_≡_};
+ghost use Prim.Native.Nat.{_+_, _*_, _%_, _^_, _≤_, _<_};
 ghost use lib.ListN.{length, drop};
 ghost use Rattle.scan.specs.Mantissa.{mantissa};
 ghost use Rattle.closest.specs.Targets.{Sized};
@@ -48,6 +49,17 @@ fn side(text: &[u8], from: usize, tens: u32, p: u64, t: Target) -> Order
     limbs::against(text, from, n, n + unit, h.m, 0, h.twos)
 }
 
+// The even one of a pattern and the next.
+fn even_of(p: u64) -> u64
+    requires { ⌜ p < 2 ^ 63 ⌝ }
+    ensures { λ r. ⌜ r ≡ p + p % 2 ⌝ }
+{
+    if p % 2 == 0 {
+        return p;
+    }
+    p + 1
+}
+
 // The pattern, of those from `least` to `most`, that the number reads as.
 pub fn settle(text: &[u8], from: usize, tens: u32, least: u64, most: u64, t: Target) -> u64
     requires { ⌜ (from ≤ length (now text)) × (length (now text) ≤ 64) × (9694 ≤ tens) × (tens ≤ 10408) × Sized t ⌝ }
@@ -62,7 +74,7 @@ pub fn settle(text: &[u8], from: usize, tens: u32, least: u64, most: u64, t: Tar
         let o = side(text, from, tens, p, t);
         match o {
             Order::Below => return p,
-            Order::Equal => return p + p % 2,
+            Order::Equal => return even_of(p),
             Order::Above => p += 1,
         }
     }

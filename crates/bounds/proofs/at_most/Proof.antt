@@ -1,6 +1,8 @@
 -- `bounds::at_most` meets its contract: the sum itself, or its half. Assumes nothing.
-use native.Mathlib.Nat.{le-of-eq, le-trans}
 use mathlib.Core.Path.{sym}
+use Prim.Native.Nat.{_+_}
+use native.Mathlib.Nat.{le-of-eq, le-trans}
+use native.Mathlib.Omega.{arith}
 use borrow.Author.Needs.{needs}
 use Rattle.bounds.proofs.Products.{halved}
 use Rattle.bounds.proofs.at_most.Statement.{statement}
@@ -18,7 +20,7 @@ pack-requires c κs = search needs
 returns : tie.Need-returns
 returns c =
     let s = c .before .before in
-    λ w r is. le-trans (halved w r (s .args .m) (s .args .far) (s .args .e) (s .pre .1)) (le-of-eq (sym (c .pack .ensures w is)))
+    λ w r is. le-trans (halved w r (s .args .m + s .args .far) _ (s .args .e) (omega (arith, s .pre .1))) (le-of-eq (sym (c .pack .ensures w is)))
 
 add-pack-3 : tie.Need-add-pack-3
 add-pack-3 c = search needs

@@ -24,7 +24,7 @@ returns-3 : tie.Need-returns-3
 returns-3 c =
     let s = c .before .before .before .before .before in
     λ w spanned is.
-    too-large w spanned (s .args .text .now) (number s) (s .args .t) is (omega (arith, c .before .before .before .if1 .left)) (c .before .if3 .taken) _ (c .infinity .ensures)
+    too-large w spanned (s .args .text .now) (number s) (s .args .t) is (omega (arith, c .before .before .before .if1 .left)) (omega (arith, c .before .if3 .taken)) _ (c .infinity .ensures)
 
 cast-around : tie.Need-cast-around
 cast-around c = search needs

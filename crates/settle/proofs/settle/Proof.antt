@@ -1,11 +1,11 @@
 -- `settle::settle` meets its contract: each turn rules a pattern out, or ends at the one that the number reads as. Assumes nothing.
-use mathlib.Core.Path.{subst}
+use mathlib.Core.Path.{sym, subst}
 use Prim.Native.Nat.{_-_, _*_, _^_, _<_}
 use native.Mathlib.Omega.{arith}
 use lib.ListN.{drop}
 use borrow.Author.Needs.{needs}
 use Rattle.scan.specs.Mantissa.{mantissa}
-use Rattle.settle.specs.Settles.{Side}
+use Rattle.settle.specs.Settles.{Side, Settles}
 use Rattle.settle.proofs.Settling.{Reached, at-first, at-last, at-infinity, when-below, when-equal, when-above}
 use Rattle.settle.proofs.settle.Statement.{statement}
 use Rattle.settle.proofs.settle.Tie as tie
@@ -45,16 +45,18 @@ returns-2 c =
 enum-told-2 : tie.Need-enum-told-2 Inv-loop μ-loop
 enum-told-2 c = search needs
 
-add-result : tie.Need-add-result Inv-loop μ-loop
-add-result c = let l = c .before .before .before .before .before in omega (arith, l .before .before .before .pre .4 .fits, l .before .infinity .ensures, c .before .before .before .if1 .left)
+even-of-requires : tie.Need-even-of-requires Inv-loop μ-loop
+even-of-requires c κs = let l = c .before .before .before .before .before in omega (arith, l .before .before .before .pre .4 .fits, l .before .infinity .ensures, c .before .before .before .if1 .left)
 
 returns-3 : tie.Need-returns-3 Inv-loop μ-loop
 returns-3 c =
-    let l = c .before .before .before .before .before in
+    let told = c .before in
+    let l = told .before .before .before .before .before in
     let s = l .before .before .before in
-    let inside : l .loop .p < s .args .t .ones * 2 ^ s .args .t .fraction = omega (arith, l .before .infinity .ensures, c .before .before .before .if1 .left) in
-    when-equal (s .args .t) _ _ (s .args .least) (s .args .most) (l .loop .p) (l .loop .inv) inside
-    (subst (Side (s .args .t) _ _ (l .loop .p)) (c .enum-told2 .given .1) (c .before .before .side .ensures))
+    let inside : l .loop .p < s .args .t .ones * 2 ^ s .args .t .fraction = omega (arith, l .before .infinity .ensures, told .before .before .before .if1 .left) in
+    subst (Settles (s .args .t) _ _ (s .args .least) (s .args .most)) (sym (c .even-of .ensures))
+    (when-equal (s .args .t) _ _ (s .args .least) (s .args .most) (l .loop .p) (l .loop .inv) inside
+    (subst (Side (s .args .t) _ _ (l .loop .p)) (told .enum-told2 .given .1) (told .before .before .side .ensures)))
 
 enum-told-3 : tie.Need-enum-told-3 Inv-loop μ-loop
 enum-told-3 c = search needs
@@ -91,7 +93,7 @@ settle-spec =
     enum-told
     returns-2
     enum-told-2
-    add-result
+    even-of-requires
     returns-3
     enum-told-3
     add-p
