@@ -1,5 +1,5 @@
 -- Which width the numbers of a target are. Assumes nothing.
-use Prim.Native.Nat.{ℕ, _+_, _*_, _^_, _≤_, _<_}
+use Prim.Native.Nat.{_+_, _*_, _^_, _≤_, _<_}
 use mathlib.Core.Path.{_≡_}
 use Rattle.rules.specs.Width.{Width}
 use Rattle.rules.specs.Pattern.{allOnes}

@@ -1,6 +1,6 @@
 -- Digits and their place: zeros taken off the end, and the same number as a product and as a quotient. Assumes nothing.
 use mathlib.Core.Logic.{⊎-elim}
-use mathlib.Core.Path.{_≡_, sym, ap, _∙_}
+use mathlib.Core.Path.{_≡_, ap, _∙_}
 use Prim.Native.Nat.{ℕ, suc, _+_, _-_, _*_, _/_, _%_, _^_, _≤_, _<_}
 use native.Mathlib.Nat.{div-add-mod', pow-suc, mul-le-mul-right, pow-le-pow-right}
 use native.Mathlib.Omega.{arith}

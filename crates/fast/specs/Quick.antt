@@ -1,5 +1,5 @@
 -- What the quick way says of digits and their place. Assumes nothing.
-use Prim.Native.Nat.{ℕ, _+_, _*_, _^_, _≤_}
+use Prim.Native.Nat.{ℕ, _+_, _*_, _^_}
 use mathlib.Core.Path.{_≡_}
 use Rattle.rules.specs.Reading.{nearest}
 use Rattle.rules.specs.Width.{w64}

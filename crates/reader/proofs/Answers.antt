@@ -5,7 +5,7 @@ use mathlib.Core.Path.{_≡_, sym, ap, _∙_}
 use Prim.Native.Nat.{ℕ, _≤_, _<_}
 use lib.ListN.{length}
 use Rattle.rules.specs.Width.{Width}
-use Rattle.rules.specs.Reading.{Exact, refused, notANumber, infinite, number, exact, infinity, nearest, withSign}
+use Rattle.rules.specs.Reading.{Exact, refused, notANumber, infinite, number, exact, infinity, withSign}
 use Rattle.rules.specs.Reader.{Reading, quietNaN, answered, reading}
 use Rattle.theorems.proofs.Halfway.{no-more}
 use Rattle.theorems.proofs.ReadLength.{in-length}

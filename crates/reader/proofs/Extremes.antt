@@ -4,14 +4,13 @@ use mathlib.Core.Path.{_≡_, refl, _∙_}
 use Prim.Native.Nat.{ℕ, zero, suc, _+_, _-_, _*_, _^_, _≤_, _<_}
 use native.Mathlib.Nat.{le-trans, pow-le-pow-right, mul-pos, mul-le-mul-left, mul-le-mul-right, mul-lt-mul-of-pos-right}
 use native.Mathlib.Omega.{arith}
-use lib.Dec.{lit<, lit≤}
-use lib.Pow.{pow-add, pow-pos}
+use lib.Dec.{lit<}
+use lib.Pow.{pow-add}
 use Rattle.laws.proofs.Powers.{ten-pos}
-use Rattle.rules.specs.Tables.{raised, significands32, exponents32, significands64, exponents64}
-use Rattle.rules.specs.Width.{Width, w32, w64, off}
+use Rattle.rules.specs.Width.{Width, w32, w64}
 use Rattle.rules.specs.Pattern.{allOnes}
 use Rattle.rules.specs.Reading.{infinity, low, nearest}
-use Rattle.theorems.proofs.Readable.{Readable, readable32, readable64}
+use Rattle.theorems.proofs.Readable.{readable32, readable64}
 use Rattle.theorems.proofs.Units.{unitsOf}
 use Rattle.theorems.proofs.Halfway.{midpoint, below-midpoint, above-midpoint, no-more}
 use Rattle.scan.specs.Kept.{Kept}

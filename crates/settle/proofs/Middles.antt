@@ -7,9 +7,9 @@ use lib.Dec.{lit≤}
 use lib.Pow.{pow-pos, pow-mono}
 use Rattle.rules.specs.Width.{Width}
 use Rattle.theorems.proofs.Halfway.{midpoint}
-use Rattle.theorems.proofs.Units.{Placed, place}
+use Rattle.theorems.proofs.Units.{place}
 use Rattle.closest.specs.declared.Target.{Target}
-use Rattle.closest.specs.Targets.{Targets, Sized}
+use Rattle.closest.specs.Targets.{Sized}
 use Rattle.settle.specs.Settles.{Middle}
 
 -- A pattern with significand q at the place k.

@@ -5,7 +5,7 @@ use native.Mathlib.Nat.{le-antisymm, le-trans}
 use native.Mathlib.Omega.{arith}
 use Rattle.laws.proofs.Powers.{ten-pos}
 use Rattle.rules.specs.Width.{Width}
-use Rattle.rules.specs.Reading.{infinity, nearest}
+use Rattle.rules.specs.Reading.{infinity}
 use Rattle.theorems.proofs.Halfway.{below-midpoint, at-midpoint, above-midpoint, no-more}
 use Rattle.limbs.specs.declared.Order.the-variants.{Below, Equal, Above}
 use Rattle.closest.specs.declared.Target.{Target}

@@ -1,8 +1,8 @@
 -- The text of every pattern but NaN is read as the pattern, infinities and both zeros too. Assumes nothing.
-use mathlib.Core.Bool.{Bool, true, false, not}
+use mathlib.Core.Bool.{Bool, true, false}
 use mathlib.Core.List.{List, _∷_}
 use mathlib.Core.Path.{_≡_, refl, sym, ap, _∙_}
-use Prim.Native.Nat.{ℕ, _+_, _*_, _^_, _≤_, _<_}
+use Prim.Native.Nat.{ℕ, _*_, _^_, _<_}
 use native.Mathlib.Omega.{arith}
 use lib.Dec.{T, eqb, eqb→eq}
 use lib.Ieee.Fits.{eq→eqb}
@@ -11,12 +11,12 @@ use Rattle.rules.specs.Bytes.{bytes, minus}
 use Rattle.rules.specs.Width.{Width}
 use Rattle.rules.specs.Pattern.{negative, biased, significand, allOnes, special}
 use Rattle.rules.specs.Text.{signed, text}
-use Rattle.rules.specs.Reading.{infinite, number, same, magnitudeOf, exact, infinity, nearest, withSign}
-use Rattle.rules.specs.Reader.{Reading, answered, unread, reading}
+use Rattle.rules.specs.Reading.{infinite, number, same, magnitudeOf, exact, infinity, withSign}
+use Rattle.rules.specs.Reader.{Reading, answered, reading}
 use Rattle.theorems.proofs.Worth.{bare}
 use Rattle.theorems.proofs.Signs.{rejoined}
 use Rattle.theorems.proofs.ReadLength.{in-length}
-use Rattle.theorems.proofs.TextLength.{Within, text-length}
+use Rattle.theorems.proofs.TextLength.{text-length}
 use Rattle.theorems.proofs.Printable.{Printable}
 use Rattle.theorems.proofs.RoundTrip.{restored}
 

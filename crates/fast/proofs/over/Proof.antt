@@ -1,11 +1,11 @@
 -- `fast::over` meets its contract: the quotient of two exact numbers, rounded once. Assumes nothing.
-use mathlib.Core.Bool.{false, not}
+use mathlib.Core.Bool.{false}
 use mathlib.Core.Path.{_≡_, ap, ap₂, _∙_}
-use Prim.Native.Nat.{ℕ, _*_, _^_, _≤_}
+use Prim.Native.Nat.{ℕ, _^_, _≤_}
 use native.Mathlib.Omega.{arith}
-use lib.Dec.{T, lit<}
+use lib.Dec.{lit<}
 use lib.IntN.{pos}
-use lib.Ieee.{Float, binary64, ofInt, round, div, toBits, isNan}
+use lib.Ieee.{Float, binary64, ofInt, round, div, toBits}
 use lib.Ieee.Exact.{HasValue}
 use borrow.Author.Needs.{needs}
 use Rattle.laws.proofs.Powers.{ten-pos}

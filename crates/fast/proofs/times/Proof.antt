@@ -1,14 +1,13 @@
 -- `fast::times` meets its contract: the product of two exact numbers, rounded once. Assumes nothing.
-use mathlib.Core.Bool.{false, not}
+use mathlib.Core.Bool.{false}
 use mathlib.Core.Path.{_≡_, ap, ap₂, _∙_}
 use Prim.Native.Nat.{ℕ, _*_, _^_, _≤_}
 use native.Mathlib.Omega.{arith}
-use lib.Dec.{T, lit<}
+use lib.Dec.{lit<}
 use lib.IntN.{pos}
-use lib.Ieee.{Float, binary64, ofInt, round, mul, toBits, isNan}
+use lib.Ieee.{Float, binary64, ofInt, round, mul, toBits}
 use lib.Ieee.Exact.{HasValue}
 use borrow.Author.Needs.{needs}
-use Rattle.laws.proofs.Powers.{ten-pos}
 use Rattle.theorems.proofs.Ieee.{round64}
 use Rattle.fast.proofs.Once.{product, rounded-not-nan, whole, whole-fits}
 use Rattle.fast.proofs.times.Statement.{statement}
