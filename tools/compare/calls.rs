@@ -2,11 +2,11 @@
 //! text.
 
 use crate::archive::Printed;
+use crate::functions::{Entry, Functions};
 use crate::lent::{fenced, Lent};
 use crate::plan::{LARGEST, ROOM};
 use crate::reads::Reads;
 use crate::report::Differences;
-use crate::width::{Entry, Width};
 
 /// What a thread needs to make calls.
 pub struct Caller<'a> {
@@ -36,7 +36,7 @@ impl<'a> Caller<'a> {
     }
 
     #[inline(always)]
-    fn call<W: Width>(&mut self, entry: Entry, bits: u64, room: usize) -> Printed {
+    fn call<W: Functions>(&mut self, entry: Entry, bits: u64, room: usize) -> Printed {
         self.calls += 1;
         // SAFETY: no room is longer than the lent buffer.
         unsafe { W::ours(entry, bits, self.lent.start(), room) }
@@ -46,7 +46,7 @@ impl<'a> Caller<'a> {
     /// length and text are right and the bytes near the text stayed. The crate is asked once: at a finite pattern its
     /// `format` is its `format_finite`. Its text, which ours is held against, is read back.
     #[inline(always)]
-    pub fn agrees<W: Width>(&mut self, bits: u64, serving: usize, too_short: usize) -> bool {
+    pub fn agrees<W: Functions>(&mut self, bits: u64, serving: usize, too_short: usize) -> bool {
         let text = W::original(Entry::Every, bits, &mut self.original);
         self.reads.compare_printed::<W>(bits, text);
         let (answer, with_text) = (printed(text), self.lent.near_with(text));
@@ -71,7 +71,7 @@ impl<'a> Caller<'a> {
     }
 
     /// Reads back what is printed for a pattern.
-    pub fn read_back<W: Width>(&mut self, bits: u64) {
+    pub fn read_back<W: Functions>(&mut self, bits: u64) {
         let text = W::original(Entry::Every, bits, &mut self.original);
         self.reads.compare_printed::<W>(bits, text);
     }
@@ -84,7 +84,7 @@ impl<'a> Caller<'a> {
     }
 
     /// Makes one call and looks at every byte. Writes down a difference, and says whether there was none.
-    pub fn inspect<W: Width>(&mut self, entry: Entry, bits: u64, room: usize) -> bool {
+    pub fn inspect<W: Functions>(&mut self, entry: Entry, bits: u64, room: usize) -> bool {
         let got = self.call::<W>(entry, bits, room);
         let (wanted, text) = if room < ROOM {
             (TOO_SHORT, "")

@@ -11,6 +11,7 @@ mod damage;
 mod decimal;
 mod draws;
 mod form;
+mod functions;
 mod lent;
 mod options;
 mod plan;
@@ -30,15 +31,16 @@ use std::time::{Duration, Instant};
 
 use calls::Caller;
 use damage::ALL_SHORT;
+use functions::{Functions, ENTRIES};
 use options::Options;
 use plan::{edges, rooms, serving, spread, too_short, Block, Plan, Sweep};
 use random::{random, subnormal};
 use report::{duration, grouped, Differences};
 use rows::Rows;
-use width::{Binary32, Binary64, Width, ENTRIES};
+use width::{Binary32, Binary64};
 
 /// Each of the patterns in every buffer, at both entries, and its text read back.
-fn compare_edges<W: Width>(caller: &mut Caller) -> u64 {
+fn compare_edges<W: Functions>(caller: &mut Caller) -> u64 {
     let mut patterns = 0;
     for bits in edges::<W>() {
         for room in rooms() {
@@ -54,7 +56,7 @@ fn compare_edges<W: Width>(caller: &mut Caller) -> u64 {
 
 /// A block of patterns, each at both entries in a buffer that serves and in one that is too short, and its text read back. Where
 /// something that is printed differs, the block is gone through again, with a look at every byte after every call.
-fn compare_block<W: Width>(caller: &mut Caller, first: u64, end: u64, pattern: impl Fn(u64) -> u64) {
+fn compare_block<W: Functions>(caller: &mut Caller, first: u64, end: u64, pattern: impl Fn(u64) -> u64) {
     let mut same = true;
     for n in first..end {
         same &= caller.agrees::<W>(pattern(n), serving(n), too_short(n));

@@ -7,6 +7,7 @@ use crate::archive::Read64;
 use crate::damage::{damage, short, LARGEST};
 use crate::draws::Draws;
 use crate::form;
+use crate::functions::Functions;
 use crate::report::Differences;
 use crate::texts::Texts;
 use crate::width::{Binary32, Binary64, Width};
@@ -46,7 +47,7 @@ impl LentText {
 
     /// What the archive reads.
     #[inline(always)]
-    fn read<W: Width>(&self) -> Read64 {
+    fn read<W: Functions>(&self) -> Read64 {
         // SAFETY: the bytes are a part of the array, and the pointer is the array's.
         unsafe { W::read(self.bytes.as_ptr().add(FENCE), self.length) }
     }
@@ -74,7 +75,7 @@ impl<'a> Reads<'a> {
 
     /// Reads the lent text, and writes down a difference.
     #[inline(always)]
-    fn inspect<W: Width>(&mut self, wanted: Read64) {
+    fn inspect<W: Functions>(&mut self, wanted: Read64) {
         self.calls += 1;
         let got = self.lent.read::<W>();
         if got != wanted {
@@ -83,7 +84,7 @@ impl<'a> Reads<'a> {
     }
 
     #[cold]
-    fn differ<W: Width>(&self, wanted: Read64, got: Read64) {
+    fn differ<W: Functions>(&self, wanted: Read64, got: Read64) {
         self.differences.add(|| {
             let digits = W::BITS as usize / 4;
             let say = |read: Read64| format!("number {}, pattern 0x{:0digits$x}", read.number, read.pattern);
@@ -95,7 +96,7 @@ impl<'a> Reads<'a> {
 
     /// Reads what was printed for a pattern: the same pattern is wanted, and for every NaN the one that its name is read as.
     #[inline(always)]
-    pub fn compare_printed<W: Width>(&mut self, bits: u64, text: &str) {
+    pub fn compare_printed<W: Functions>(&mut self, bits: u64, text: &str) {
         let pattern = if W::is_nan(bits) { W::NAN } else { bits };
         self.lent.put(text.as_bytes());
         self.inspect::<W>(Read64 { pattern, number: form::READ });

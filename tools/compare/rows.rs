@@ -1,11 +1,12 @@
 //! Rows: calls of the archive for many patterns at once, held against the crate's `format` called once for each.
 
 use crate::archive::{dtoa_format_row32, Printed};
+use crate::functions::{Entry, Functions};
 use crate::lent::{fenced, Lent};
 use crate::plan::edges;
 use crate::random::random;
 use crate::report::Differences;
-use crate::width::{Binary32, Entry, Width};
+use crate::width::Binary32;
 
 /// A row has at most this many patterns, and asks for this many bytes for each.
 const LIMIT: usize = 4096;

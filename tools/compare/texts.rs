@@ -13,6 +13,23 @@ const ENDS: [(i32, i32); 4] = [(-48, -36), (36, 40), (-328, -305), (305, 311)];
 const HALFWAY32: (i32, i32) = (76, 254);
 const HALFWAY64: (i32, i32) = (1013, 1231);
 
+/// What a text is made as.
+#[derive(Clone, Copy)]
+pub enum Kind {
+    /// Any digits with a point anywhere, and an exponent of 0 to 4 digits.
+    Any,
+    /// Any digits, of a number of both widths, or of one that is too large or too small for them.
+    Near,
+    /// The same where the decimal exponents of the widths end.
+    NearEnds,
+    /// Halfway between two numbers, or close to that.
+    Halfway32,
+    Halfway64,
+    /// The same from the smallest number to the largest, where few fit to their last digit.
+    HalfwayAnywhere,
+    ZeroOrName,
+}
+
 /// Makes texts, again and again in the same room.
 pub struct Texts {
     written: Written,
@@ -24,38 +41,52 @@ impl Texts {
         Texts { written: Written::new(), whole: Whole::new() }
     }
 
-    /// The text that these draws settle.
+    /// The text that these draws settle, of any kind.
     pub fn make(&mut self, draws: &mut Draws) -> &[u8] {
+        let negative = draws.once_in(2);
+        let kind = match draws.below(32) {
+            0..8 => Kind::Any,
+            8..16 => Kind::Near,
+            16..20 => Kind::NearEnds,
+            20..25 => Kind::Halfway32,
+            25..30 => Kind::Halfway64,
+            30 => Kind::HalfwayAnywhere,
+            _ => Kind::ZeroOrName,
+        };
+        self.make_kind(kind, negative, draws)
+    }
+
+    /// The text of this kind that these draws settle.
+    pub fn make_kind(&mut self, kind: Kind, negative: bool, draws: &mut Draws) -> &[u8] {
         self.written.text.clear();
-        if draws.once_in(2) {
+        if negative {
             self.written.text.push(b'-');
         }
-        match draws.below(32) {
-            0..8 => self.any(draws),
-            8..16 => {
+        match kind {
+            Kind::Any => self.any(draws),
+            Kind::Near => {
                 let power = draws.between(-400, 400);
                 self.near(power, draws);
             }
-            16..20 => {
+            Kind::NearEnds => {
                 let (from, to) = ENDS[draws.below(ENDS.len())];
                 let power = draws.between(from, to);
                 self.near(power, draws);
             }
-            20..25 => {
+            Kind::Halfway32 => {
                 let magnitude = normal::<Binary32>(HALFWAY32, draws);
                 self.halfway::<Binary32>(magnitude, draws);
             }
-            25..30 => {
+            Kind::Halfway64 => {
                 let magnitude = normal::<Binary64>(HALFWAY64, draws);
                 self.halfway::<Binary64>(magnitude, draws);
             }
-            30 => self.halfway_anywhere(draws),
-            _ => self.zero_or_name(draws),
+            Kind::HalfwayAnywhere => self.halfway_anywhere(draws),
+            Kind::ZeroOrName => self.zero_or_name(draws),
         }
         &self.written.text
     }
 
-    /// Any digits with a point anywhere, and an exponent of 0 to 4 digits.
     fn any(&mut self, draws: &mut Draws) {
         self.draw_digits(60, draws);
         let exponent_digits = draws.below(5);
