@@ -1,4 +1,4 @@
-//! The patterns that crates/rules/proofs/Examples.antt names.
+//! The patterns that crates/rules/proofs/Examples.antt and Readings.antt name.
 
 /// Each pattern, with the bits of its width, and with its text where the example says what it prints.
 pub fn patterns(examples: &str) -> Vec<((u32, u64), Option<String>)> {

@@ -1,8 +1,8 @@
 //! Writes the stored list of patterns with the texts that the unchanged crate prints for them.
 //!
-//! Usage: list CRATE-LIB-RS EXAMPLES-ANTT LIST
-//! Reads the crate's lib.rs for its tables and crates/rules/proofs/Examples.antt for the patterns named there, writes LIST, and
-//! prints how many patterns of each kind it has. The same files give the same list.
+//! Usage: list CRATE-LIB-RS LIST EXAMPLES-ANTT...
+//! Reads the crate's lib.rs for its tables and the examples, which lie in crates/rules/proofs, for the patterns named there, writes
+//! LIST, and prints how many patterns of each kind it has. The same files give the same list.
 
 mod examples;
 #[path = "../random.rs"]
@@ -130,9 +130,10 @@ fn fail(message: &str) -> ! {
 
 fn main() {
     let words: Vec<String> = std::env::args().skip(1).collect();
-    let [source, examples, list] = &words[..] else { fail("usage: list CRATE-LIB-RS EXAMPLES-ANTT LIST") };
+    let [source, list, examples @ ..] = &words[..] else { fail("usage: list CRATE-LIB-RS LIST EXAMPLES-ANTT...") };
     let widths = rules::widths(&read(source));
-    let named = examples::patterns(&read(examples));
+    let examples: String = examples.iter().map(|path| read(path)).collect();
+    let named = examples::patterns(&examples);
     for (pattern, proved) in &named {
         if proved.as_ref().is_some_and(|proved| *proved != text(*pattern)) {
             fail(&format!("the examples have {proved:?} for {:x}, and the crate prints {:?}", pattern.1, text(*pattern)));

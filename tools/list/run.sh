@@ -12,7 +12,8 @@ rustc --edition 2021 -C opt-level=3 --extern dtoa=target/tools/libdtoa.rlib -o t
 
 echo 'list: looking for patterns whose rest equals D, some seconds'
 mkdir -p crates/replay/data
-target/tools/list "$source/src/lib.rs" crates/rules/proofs/Examples.antt crates/replay/data/list.txt >target/tools/list.out
+target/tools/list "$source/src/lib.rs" crates/replay/data/list.txt \
+    crates/rules/proofs/Examples.antt crates/rules/proofs/Readings.antt >target/tools/list.out
 cat target/tools/list.out
 {
     cat <<'END'
@@ -29,8 +30,8 @@ END
 Some patterns are of several kinds. A sign that the kind does not settle is drawn, from the pattern itself; so are the random
 patterns, from their number (`tools/random.rs`).
 
-*Named in the examples* are the patterns of `crates/rules/proofs/Examples.antt`. Where an example says what a pattern prints, the
-program first holds that against the crate.
+*Named in the examples* are the patterns of `crates/rules/proofs/Examples.antt` and `Readings.antt`. Where an example says what a
+pattern prints, the program first holds that against the crate.
 
 *Rest equals D* is the case of [RULES.md](../../docs/RULES.md), section 3, at which `<=` and `<` part: at a place of 0 or above
 such a rest passes, below it does not. Random f64 patterns do not meet it, so these patterns are constructed
