@@ -10,7 +10,8 @@
 #                 and our calls that read beside Rust's parse, and fast_float's where it is installed
 #                 (REPORT=1: write docs/PERFORMANCE.md and its plots; BEFORE=FOLDER: time the earlier libdtoa_c.a in that folder
 #                 too, and report CHANGE=TEXT, before and after)
-# make list       write the stored list of the program replay, crates/replay/data/list.txt, from the unchanged crate
+# make list       write the stored lists: that of the program replay, crates/replay/data/list.txt, from the unchanged crate, and the
+#                 texts of the program read, crates/read/stdin, with what Rust's parse reads in them, crates/read/stdout
 #
 # DTOA_LIB=FOLDER  has libdtoa_c.a; where it is not given, rt proves and makes target/staticlib/libdtoa_c.a
 # DTOA_SRC=FOLDER  has the unchanged crate dtoa 1.0.11, its src/lib.rs; where it is not given, ../shared/docs/src

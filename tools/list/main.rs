@@ -1,19 +1,39 @@
-//! Writes the stored list of patterns with the texts that the unchanged crate prints for them.
+//! Writes the stored lists: patterns with the texts that the unchanged crate prints for them, and lines of text with the patterns
+//! that Rust's `parse` reads.
 //!
-//! Usage: list CRATE-LIB-RS LIST EXAMPLES-ANTT...
-//! Reads the crate's lib.rs for its tables and the examples, which lie in crates/rules/proofs, for the patterns named there, writes
-//! LIST, and prints how many patterns of each kind it has. The same files give the same list.
+//! Usage: list CRATE-LIB-RS LIST STDIN STDOUT EXAMPLES-ANTT...
+//! Reads the crate's lib.rs for its tables and the examples, which lie in crates/rules/proofs, for what they name. Writes LIST,
+//! the patterns with their texts, STDIN, the lines, and STDOUT, what the program read is to write for them, and prints how many
+//! of each kind there are. The same files give the same lists.
 
+#[path = "../compare/damage.rs"]
+#[allow(dead_code)] // of the short texts only those of one byte are listed
+mod damage;
+#[path = "../compare/decimal.rs"]
+mod decimal;
+#[path = "../compare/draws.rs"]
+mod draws;
 mod examples;
+#[path = "../compare/form.rs"]
+mod form;
+mod lines;
 #[path = "../random.rs"]
 mod random;
 mod rules;
+#[path = "../compare/texts.rs"]
+mod texts;
 mod ties;
+#[path = "../compare/width.rs"]
+mod width;
+#[path = "../compare/written.rs"]
+mod written;
 
 use std::collections::BTreeSet;
 use std::fs;
 use std::process::exit;
 
+use examples::Said;
+use lines::Line;
 use random::random;
 use rules::{Tie, Width};
 
@@ -128,20 +148,34 @@ fn fail(message: &str) -> ! {
     exit(1)
 }
 
-fn main() {
-    let words: Vec<String> = std::env::args().skip(1).collect();
-    let [source, list, examples @ ..] = &words[..] else { fail("usage: list CRATE-LIB-RS LIST EXAMPLES-ANTT...") };
-    let widths = rules::widths(&read(source));
-    let examples: String = examples.iter().map(|path| read(path)).collect();
-    let named = examples::patterns(&examples);
-    for (pattern, proved) in &named {
+fn write(path: &str, bytes: impl AsRef<[u8]>) {
+    fs::write(path, bytes).unwrap_or_else(|error| fail(&format!("{path} cannot be written: {error}")));
+}
+
+/// Holds what the examples say against the crate and against Rust's `parse`.
+fn check(named: &[(Pattern, Option<String>)], said: &[(&str, Said)]) {
+    for (pattern, proved) in named {
         if proved.as_ref().is_some_and(|proved| *proved != text(*pattern)) {
             fail(&format!("the examples have {proved:?} for {:x}, and the crate prints {:?}", pattern.1, text(*pattern)));
         }
     }
+    for (text, proved) in said {
+        let (number, patterns) = lines::answer(text.as_bytes());
+        let same = match proved {
+            Said::Narrow(pattern) => patterns.is_some_and(|(narrow, _)| narrow == *pattern),
+            Said::Wide(pattern) => patterns.is_some_and(|(_, wide)| wide == *pattern),
+            Said::Refused(proved) => u64::from(number) == *proved,
+        };
+        if !same {
+            fail(&format!("of {text:?} the examples say another thing than number {number} and the patterns {patterns:x?}"));
+        }
+    }
+}
 
+/// Writes the patterns with their texts, and answers the patterns in the order of the list.
+fn list_patterns(list: &str, kinds: Vec<(String, Vec<Pattern>)>) -> Vec<Pattern> {
     let mut all = BTreeSet::new();
-    for (kind, patterns) in kinds(&widths, &named) {
+    for (kind, patterns) in kinds {
         println!("{:6} {kind}", patterns.len());
         all.extend(patterns);
     }
@@ -149,9 +183,53 @@ fn main() {
     let mut ordered: Vec<Pattern> = all.into_iter().collect();
     ordered.sort_by_key(|(bits, pattern)| random(u64::from(*bits), *pattern));
     let line = |pattern: &Pattern| format!("{:0digits$x} {}\n", pattern.1, text(*pattern), digits = pattern.0 as usize / 4);
-    let lines: String = ordered.iter().map(line).collect();
     println!("{:6} lines, each pattern once", ordered.len());
-    if let Err(error) = fs::write(list, lines) {
-        fail(&format!("{list} cannot be written: {error}"));
+    write(list, ordered.iter().map(line).collect::<String>());
+    ordered
+}
+
+/// Writes the lines, and what is to be written for them.
+fn list_lines(stdin: &str, stdout: &str, kinds: Vec<(&str, Vec<Line>)>) {
+    let count = |lines: &[Line], kind: &str| {
+        let read = lines.iter().filter(|line| lines::is_read(line)).count();
+        println!("{read:6} {:7} {kind}", lines.len() - read);
+    };
+    println!("  read refused");
+    let mut all = BTreeSet::new();
+    for (kind, lines) in kinds {
+        count(&lines, kind);
+        all.extend(lines);
     }
+    // in an order that mixes kinds, and at the end one that is read, without a line end
+    let mut ordered: Vec<Line> = all.into_iter().collect();
+    ordered.sort_by_key(|line| line.iter().fold(0, |key, byte| random(key, u64::from(*byte))));
+    let last = ordered.iter().rposition(|line| lines::is_read(line)).expect("a line that is read");
+    let last = ordered.remove(last);
+    ordered.push(last);
+    count(&ordered, "lines, each once");
+    write(stdin, ordered.join(&b'\n'));
+    write(stdout, ordered.iter().map(|line| lines::written(line)).collect::<String>());
+}
+
+fn main() {
+    let words: Vec<String> = std::env::args().skip(1).collect();
+    let [source, list, stdin, stdout, examples @ ..] = &words[..] else {
+        fail("usage: list CRATE-LIB-RS LIST STDIN STDOUT EXAMPLES-ANTT...")
+    };
+    let examples: String = examples.iter().map(|path| read(path)).collect();
+    let (named, said) = (examples::patterns(&examples), examples::texts(&examples));
+    check(&named, &said);
+
+    let patterns = list_patterns(list, kinds(&rules::widths(&read(source)), &named));
+    println!();
+    let printed = |bits| {
+        patterns.iter().step_by(3).filter(|pattern| pattern.0 == bits).map(|pattern| text(*pattern).into_bytes()).collect()
+    };
+    let mut lines = vec![
+        ("printed for f32, of every third pattern above", printed(32)),
+        ("printed for f64, of every third pattern above", printed(64)),
+        ("named in the examples", said.iter().map(|(text, _)| text.as_bytes().to_vec()).collect()),
+    ];
+    lines.extend(lines::kinds());
+    list_lines(stdin, stdout, lines);
 }
