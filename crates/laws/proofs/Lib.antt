@@ -10,3 +10,4 @@ pub mod Puts
 pub mod Rest
 pub mod Halves
 pub mod Zeros
+pub mod Lanes

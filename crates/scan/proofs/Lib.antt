@@ -1,5 +1,7 @@
 pub mod Keeping
 pub mod Passing
+pub mod Spelling
+pub mod Loading
 pub mod Going
 pub mod Exponents
 pub mod Signing

@@ -2,6 +2,7 @@ pub mod Kept
 pub mod Mantissa
 pub mod Heads
 pub mod Passes
+pub mod Spells
 pub mod Goes
 pub mod Raises
 pub mod Scans

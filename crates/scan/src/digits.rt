@@ -2,10 +2,12 @@
 ghost use mathlib.Core.Bool.{true};
 ghost use mathlib.Core.Path.{_≡_};
 ghost use Prim.Native.Nat.{ℕ, _+_, _-_, _*_, _^_, _<_, _≤_};
-ghost use lib.ListN.{length};
+ghost use lib.ListN.{length, take, drop};
+ghost use Rattle.laws.specs.Lanes.{word};
 ghost use Rattle.rules.specs.Bytes.{byte0};
 ghost use Rattle.rules.specs.Reading.{isDigit};
 ghost use Rattle.scan.specs.Passes.{Makes};
+ghost use Rattle.scan.specs.Spells.{Joins, Spells};
 ghost use Rattle.scan.specs.Goes.{Keeps, Goes, Reaches};
 
 // What is kept of digits.
@@ -83,36 +85,50 @@ pub fn digits(s: &[u8], from: usize, start: Held) -> Run
     Run { at: i, held }
 }
 
-// The number that two bytes make if both are digits, else 100.
-fn two(s: &[u8], at: usize) -> u64
-    requires { ⌜ at + 2 ≤ length (now s) ⌝ }
-    ensures { λ r. ⌜ (r ≤ 100) × (r < 100 → Makes 2 (now (s .entry)) at r) ⌝ }
+// Four bytes of a text as one word, the first the lowest.
+fn half_at(s: &[u8], at: usize) -> u64
+    requires { ⌜ at + 4 ≤ length (now s) ⌝ }
+    ensures { λ r. ⌜ (r < 2 ^ 32) × (r ≡ word 8 (take 4 (drop at (now (s .entry))))) ⌝ }
 {
-    let a = s[at];
-    let b = s[at + 1];
-    if !is_digit(a) {
-        return 100;
-    }
-    if !is_digit(b) {
-        return 100;
-    }
-    value(a) * 10 + value(b)
+    let a = s[at] as u64;
+    let b = s[at + 1] as u64;
+    let c = s[at + 2] as u64;
+    let d = s[at + 3] as u64;
+    a + b * 0x100 + c * 0x1_0000 + d * 0x100_0000
 }
 
-// The number that four bytes make if all are digits, else 10,000.
-fn four(s: &[u8], at: usize) -> u64
-    requires { ⌜ at + 4 ≤ length (now s) ⌝ }
-    ensures { λ r. ⌜ (r ≤ 10000) × (r < 10000 → Makes 4 (now (s .entry)) at r) ⌝ }
+// Eight bytes of a text as one word, the first the lowest.
+fn word_at(s: &[u8], at: usize) -> u64
+    requires { ⌜ at + 8 ≤ length (now s) ⌝ }
+    ensures { λ r. ⌜ r ≡ word 8 (take 8 (drop at (now (s .entry)))) ⌝ }
 {
-    let high = two(s, at);
-    if high == 100 {
-        return 10000;
+    let low = half_at(s, at);
+    let high = half_at(s, at + 4);
+    low + high * 0x1_0000_0000
+}
+
+// The number that eight digits make, each in a byte of a word and the first the lowest.
+fn joined(n: u64) -> u64
+    requires { ⌜ n ≤ 0x0F0F_0F0F_0F0F_0F0F ⌝ }
+    ensures { λ r. ⌜ Joins n r ⌝ }
+{
+    let twos = (n * 10 + (n >> 8)) & 0x00FF_00FF_00FF_00FF;
+    let fours = (twos * 100 + (twos >> 16)) & 0x0000_FFFF_0000_FFFF;
+    (fours * 10000 + (fours >> 32)) & 0xFFFF_FFFF
+}
+
+// The number that the eight bytes of a word make if all are digits, else 100,000,000.
+fn spelled(v: u64) -> u64
+    ensures { λ r. ⌜ Spells v r ⌝ }
+{
+    if v & 0xF0F0_F0F0_F0F0_F0F0 != 0x3030_3030_3030_3030 {
+        return 100000000;
     }
-    let low = two(s, at + 2);
-    if low == 100 {
-        return 10000;
+    let n = v & 0x0F0F_0F0F_0F0F_0F0F;
+    if (n + 0x0606_0606_0606_0606) & 0xF0F0_F0F0_F0F0_F0F0 != 0 {
+        return 100000000;
     }
-    high * 100 + low
+    joined(n)
 }
 
 // The number that eight bytes make if all are digits, else 100,000,000.
@@ -120,15 +136,7 @@ fn eight(s: &[u8], at: usize) -> u64
     requires { ⌜ at + 8 ≤ length (now s) ⌝ }
     ensures { λ r. ⌜ (r ≤ 100000000) × (r < 100000000 → Makes 8 (now (s .entry)) at r) ⌝ }
 {
-    let high = four(s, at);
-    if high == 10000 {
-        return 100000000;
-    }
-    let low = four(s, at + 4);
-    if low == 10000 {
-        return 100000000;
-    }
-    high * 10000 + low
+    spelled(word_at(s, at))
 }
 
 // Eight digits more, for which there is room.
