@@ -48,13 +48,13 @@ module _ (digits i x m : ℕ) (some : 0 < digits) (fits : digits < 2 ^ 64) (x-fi
       rw m-is (le-div-iff-mul-le (pow-pos 64) .1 full)
 
   -- The number lies from m units on to as many above as are open.
-  pub bracketed : (w : Width) → Readable w → (more : Bool) (far least most : ℕ) → Opens more far → (a d up down e : ℕ) → Kept a digits d more →
-      i + down ≡ 342 + (up + d) → e + leadingZeros 64 digits ≡ 64 + exponent i → least ≡ nearest w (m * 2 ^ e) (2 ^ 1200) →
-      nearest w ((m + far) * 2 ^ e) (2 ^ 1200) ≤ most → Within (nearest w (a * 10 ^ up) (10 ^ down)) least most
-  bracketed w r more far least most opens a d up down e kept at shift is above =
+  pub bounded : (e : ℕ) → e + leadingZeros 64 digits ≡ 64 + exponent i → (w : Width) → Readable w → (more : Bool) (far : ℕ) → Opens more far → (a d up down : ℕ) →
+      Kept a digits d more → i + down ≡ 342 + (up + d) →
+      Within (nearest w (a * 10 ^ up) (10 ^ down)) (nearest w (m * 2 ^ e) (2 ^ 1200)) (nearest w ((m + far) * 2 ^ e) (2 ^ 1200))
+  bounded e shift w r more far opens a d up down kept at =
       record {
-        above = rw is (at-least w r a d up down i x (leadingZeros 64 digits) e at shift l digits m (kept .low) (product-least (digits * 2 ^ leadingZeros 64 digits) x m m-is));
-        below = le-trans (upper more opens kept) above;
+        above = at-least w r a d up down i x (leadingZeros 64 digits) e at shift l digits m (kept .low) (product-least (digits * 2 ^ leadingZeros 64 digits) x m m-is);
+        below = upper more opens kept;
       }
     where
       upper : (b : Bool) → Opens b far → Kept a digits d b → nearest w (a * 10 ^ up) (10 ^ down) ≤ nearest w ((m + far) * 2 ^ e) (2 ^ 1200)

@@ -1,13 +1,13 @@
 -- A significand of 64 bits with a binary exponent, read at a width. Assumes nothing.
 use mathlib.Core.Path.{_≡_, sym, ap, _∙_}
-use Prim.Native.Nat.{ℕ, suc, _+_, _-_, _*_, _/_, _^_, _≤_, _<_}
+use Prim.Native.Nat.{ℕ, suc, _+_, _-_, _*_, _/_, _%_, _^_, _≤_, _<_}
 use native.Mathlib.Nat.{le-antisymm, lt-of-le-of-lt, mul-assoc, mul-pos, mul-le-mul-left, mul-le-mul-right, mul-lt-mul-of-pos-right}
-use native.Mathlib.Nat.{le-div-iff-mul-le, div-lt-iff-lt-mul}
+use native.Mathlib.Nat.{le-div-iff-mul-le, div-lt-iff-lt-mul, mod-eq-of-lt}
 use native.Mathlib.Omega.{arith}
 use lib.Ieee.{size}
 use lib.Ieee.Digits.{size-le, size-lt}
 use lib.Ieee.Nearest.{closest, closest-same}
-use lib.Pow.{pow-pos, pow-add, pow-mono}
+use lib.Pow.{pow-pos, pow-add, pow-lt, pow-mono}
 use Rattle.laws.proofs.Closest.{is-closest, one-closest, closest-least, closest-most}
 use Rattle.laws.proofs.Exponents.{lesser-exponent}
 use Rattle.rules.specs.Width.{Width}
@@ -21,8 +21,12 @@ size-is : (a n : ℕ) → 2 ^ a ≤ n → n < 2 ^ suc a → size n ≡ suc a
 size-is a n least most = le-antisymm (size-le n (suc a) most) (lesser-exponent a (size n) (lt-of-le-of-lt least (size-lt n)))
 
 -- A power of two by the sum of its exponents.
-same-power : (a b c d : ℕ) → a + b ≡ c + d → 2 ^ a * 2 ^ b ≡ 2 ^ c * 2 ^ d
+pub same-power : (a b c d : ℕ) → a + b ≡ c + d → 2 ^ a * 2 ^ b ≡ 2 ^ c * 2 ^ d
 same-power a b c d e = sym (pow-add 2 a b) ∙ ap (λ (x : ℕ). 2 ^ x) e ∙ pow-add 2 c d
+
+-- A bit shifted to a place that a u64 has.
+pub one-shifted : (s : ℕ) → s < 64 → 1 * 2 ^ s % 2 ^ 64 ≡ 2 ^ s
+one-shifted s few = ap (λ (n : ℕ). n % 2 ^ 64) (omega arith) ∙ mod-eq-of-lt (pow-lt few)
 
 -- The number n * 2^e / 2^whole, where the width's unit is 2^base / 2^whole, and c binary digits of n are more than the width has.
 module _ (w : Width) (base whole c : ℕ) (based : base + low w ≡ whole) (digits : w .S + c ≡ 63) (n e : ℕ) (high : 2 ^ 63 ≤ n)
@@ -89,6 +93,10 @@ kept-none n j fits more =
     one-closest (pow-pos j) (is-closest n (2 ^ j) (pow-pos j)) (record { up = omega (arith, far); down = omega arith })
 
 -- ---- a target's numbers
+
+-- A field that is at most the ones has room in its place.
+pub placed : {t : Target} → Sized t → (x : ℕ) → x ≤ t .ones → x * 2 ^ t .fraction % 2 ^ 64 ≡ x * 2 ^ t .fraction
+placed {t} sized x few = mod-eq-of-lt (omega (arith, mul-le-mul-right (2 ^ t .fraction) few, sized .fits))
 
 module _ {t : Target} {w : Width} (g : Targets t w) (sized : Sized t) (n e : ℕ) (high : 2 ^ 63 ≤ n) (fits : n < 2 ^ 64) where
   cut : ℕ

@@ -6,16 +6,10 @@ use native.Mathlib.Omega.{arith}
 use lib.Dec.{lit≤}
 use lib.Pow.{pow-pos, pow-mono}
 use Rattle.rules.specs.Width.{Width}
-use Rattle.theorems.proofs.Halfway.{midpoint}
-use Rattle.theorems.proofs.Units.{place}
+use Rattle.theorems.proofs.Halfway.{midpoint, midpoint-at}
 use Rattle.closest.specs.declared.Target.{Target}
 use Rattle.closest.specs.Targets.{Sized}
 use Rattle.settle.specs.Settles.{Middle}
-
--- A pattern with significand q at the place k.
-at-place : (w : Width) (p k q : ℕ) → k * 2 ^ w .S + q ≡ p → q < 2 * 2 ^ w .S → (0 < k → 2 ^ w .S ≤ q) → midpoint w p ≡ (2 * q + 1) * 2 ^ k
-unfolding midpoint place
-at-place w p k q is fits hidden = let s = place (w .S) k q p is fits hidden in omega (arith, s .units, s .next)
 
 module _ (w : Width) (p : ℕ) where
   parts : p / 2 ^ w .S * 2 ^ w .S + p % 2 ^ w .S ≡ p
@@ -28,14 +22,14 @@ module _ (w : Width) (p : ℕ) where
   pub subnormal-midpoint : p / 2 ^ w .S ≡ 0 → midpoint w p ≡ (2 * p + 1) * 2 ^ 0
   subnormal-midpoint none =
       let same : p % 2 ^ w .S ≡ p = let e = rw none at parts in omega (arith, e) in
-      at-place w p 0 p (omega arith) (omega (arith, rest)) (λ h. absurd (omega arith))
+      midpoint-at w p 0 p (omega arith) (omega (arith, rest)) (λ h. absurd (omega arith))
 
   -- With another.
   pub normal-midpoint : 0 < p / 2 ^ w .S → midpoint w p ≡ (2 * (2 ^ w .S + p % 2 ^ w .S) + 1) * 2 ^ (p / 2 ^ w .S - 1)
   normal-midpoint some =
       let b = p / 2 ^ w .S in
       let field : b ≡ suc (b - 1) = omega arith in
-      at-place w p (b - 1) (2 ^ w .S + p % 2 ^ w .S) (omega (arith, parts, ap (λ (n : ℕ). n * 2 ^ w .S) field)) (omega (arith, rest)) (λ h. omega arith)
+      midpoint-at w p (b - 1) (2 ^ w .S + p % 2 ^ w .S) (omega (arith, parts, ap (λ (n : ℕ). n * 2 ^ w .S) field)) (omega (arith, rest)) (λ h. omega arith)
 
 -- ---- the same by a target's numbers, with its hidden bit h
 module _ (t : Target) (sized : Sized t) (p h : ℕ) (is : h ≡ 2 ^ t .fraction) (inside : p < t .ones * 2 ^ t .fraction) where

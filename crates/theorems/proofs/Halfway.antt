@@ -2,7 +2,7 @@
 use mathlib.Core.Logic.{⊎-elim}
 use mathlib.Core.Path.{_≡_, sym, ap, _∙_}
 use Prim.Native.Nat.{ℕ, suc, _+_, _-_, _*_, _%_, _^_, _≤_, _<_}
-use native.Mathlib.Nat.{eq-or-lt-of-le, le-of-mul-le-mul-right, lt-of-mul-lt-mul-right, mul-pos, mul-le-mul-right, mul-lt-mul-of-pos-right}
+use native.Mathlib.Nat.{eq-or-lt-of-le, le-of-eq, le-of-mul-le-mul-right, lt-of-mul-lt-mul-right, mul-pos, mul-le-mul-right, mul-lt-mul-of-pos-right, pow-succ'}
 use native.Mathlib.Omega.{arith}
 use lib.Pow.{pow-pos}
 use Rattle.laws.proofs.Branches.{which}
@@ -12,7 +12,7 @@ use Rattle.rules.specs.Pattern.{allOnes}
 use Rattle.rules.specs.Reading.{infinity, low, top, worth, unbounded, nearest}
 use Rattle.rules.specs.Midpoints.{midpointAbove}
 use Rattle.theorems.proofs.Readable.{Readable}
-use Rattle.theorems.proofs.Units.{unitsOf, units-rise}
+use Rattle.theorems.proofs.Units.{unitsOf, place, units-rise}
 use Rattle.theorems.proofs.Worth.{no-sign, bare-is, worth-bare, off-units}
 use Rattle.theorems.proofs.Rounding.{Rounds, keeps, rises}
 use Rattle.theorems.proofs.Unbounded.{unbounded-rounds}
@@ -72,6 +72,21 @@ module _ (u : ℕ → ℕ) (rise : (v : ℕ) → u v < u (suc v)) (n d p x : ℕ
 -- Twice the midpoint between a pattern and the next one, in units.
 unfoldable pub midpoint : Width → ℕ → ℕ
 midpoint w x = unitsOf (w .S) x + unitsOf (w .S) (suc x)
+
+-- It is that of a pattern with significand q at the place k ..
+pub midpoint-at : (w : Width) (p k q : ℕ) → k * 2 ^ w .S + q ≡ p → q < 2 * 2 ^ w .S → (0 < k → 2 ^ w .S ≤ q) → midpoint w p ≡ (2 * q + 1) * 2 ^ k
+unfolding midpoint place
+midpoint-at w p k q is fits hidden = let s = place (w .S) k q p is fits hidden in omega (arith, s .units, s .next)
+
+-- .. and no lower where a carry makes q twice the hidden bit.
+pub midpoint-least : (w : Width) (p k q : ℕ) → k * 2 ^ w .S + q ≡ p → 2 ^ w .S ≤ q → q ≤ 2 * 2 ^ w .S → (2 * q + 1) * 2 ^ k ≤ midpoint w p
+midpoint-least w p k q is hidden fits =
+    ⊎-elim carried (λ (l : q < 2 * 2 ^ w .S). le-of-eq (sym (midpoint-at w p k q is l (λ h. hidden)))) (eq-or-lt-of-le fits)
+  where
+    carried : q ≡ 2 * 2 ^ w .S → (2 * q + 1) * 2 ^ k ≤ midpoint w p
+    carried e =
+        let next : suc k * 2 ^ w .S + 2 ^ w .S ≡ p = omega arith in
+        rw (midpoint-at w p (suc k) (2 ^ w .S) next (omega (arith, pow-pos (w .S))) (λ h. omega arith), pow-succ' 2 k, e) (omega arith)
 
 -- No fraction reads as a pattern beyond the infinity.
 pub no-more : (w : Width) (n d : ℕ) → nearest w n d ≤ infinity w

@@ -1,21 +1,16 @@
 -- `closest::pack_high` meets its contract. Assumes nothing.
 use mathlib.Core.Path.{_≡_, sym, _∙_}
-use Prim.Native.Nat.{ℕ, _+_, _-_, _*_, _%_, _^_, _≤_, _<_}
-use native.Mathlib.Nat.{mod-eq-of-lt, mul-le-mul-right}
+use Prim.Native.Nat.{ℕ, _+_, _-_, _*_, _^_, _<_}
+use native.Mathlib.Nat.{mul-le-mul-right}
 use native.Mathlib.Omega.{arith}
 use borrow.Author.Needs.{needs}
 use lib.Ieee.Nearest.{closest}
 use Rattle.rules.specs.Width.{Width}
 use Rattle.rules.specs.Reading.{nearest}
-use Rattle.closest.specs.declared.Target.{Target}
-use Rattle.closest.specs.Targets.{Targets, Sized}
-use Rattle.closest.proofs.Packing.{kept-most, kept-none, nearest-low, nearest-finite, nearest-infinite}
+use Rattle.closest.specs.Targets.{Targets}
+use Rattle.closest.proofs.Packing.{placed, kept-most, kept-none, nearest-low, nearest-finite, nearest-infinite}
 use Rattle.closest.proofs.pack_high.Statement.{statement}
 use Rattle.closest.proofs.pack_high.Tie as tie
-
--- A field that is at most the ones has room in its place.
-placed : {t : Target} → Sized t → (x : ℕ) → x ≤ t .ones → x * 2 ^ t .fraction % 2 ^ 64 ≡ x * 2 ^ t .fraction
-placed {t} sized x few = mod-eq-of-lt (omega (arith, mul-le-mul-right (2 ^ t .fraction) few, sized .fits))
 
 -- The exponent's field, less the hidden bit.
 abbrev field : tie.Start → ℕ
