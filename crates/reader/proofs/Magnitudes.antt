@@ -17,7 +17,7 @@ use Rattle.closest.specs.declared.Target.{Target}
 use Rattle.closest.specs.Targets.{Targets}
 use Rattle.fast.specs.declared.Quick.the-variants as quick
 use Rattle.fast.specs.Quick.{Finds}
-use Rattle.bounds.specs.Around.{Within, Around}
+use Rattle.bounds.specs.Around.{Within, AtOnce, Around}
 use Rattle.settle.specs.Settles.{Settles}
 use Rattle.reader.specs.Spanned.{Spanned}
 use Rattle.reader.specs.Reads.{Reads}
@@ -41,6 +41,10 @@ module _ (w : Width) (spanned : Spanned w) (t : List ℕ) (x : Decimal) where
     too-large some more v top s =
         top ∙ ap₂ (λ (n k : ℕ). n * 2 ^ k) (is .ones) (is .fraction)
         ∙ sym (reads-infinity w spanned _ (x .digits) (x .dropped) (s .up) (s .down) (x .place) (x .more) (s .kept) (s .place) some more)
+
+    -- A place in the table, whose entry decides.
+    pub shown-at-once : (v : ℕ) → 0 < v → AtOnce (x .digits) (x .more) (x .place - 9758) T v → 9758 ≤ x .place → Reads w t x v
+    shown-at-once v some decides inside s = decides some w (spanned .readable) is _ (x .dropped) (s .up) (s .down) (s .kept) (omega (arith, s .place))
 
     module _ (least most : ℕ) (around : Around (x .digits) (x .more) (x .place - 9758) T least most) (inside : 9758 ≤ x .place) where
       within : (s : Says t x) → Within (nearest w (mantissa 0 (behindSign (x .negative) t) * 10 ^ s .up) (10 ^ s .down)) least most

@@ -1,6 +1,5 @@
 // Reading a text as the nearest pattern of binary32 or binary64.
 use closest::Target;
-use fast::Quick;
 use scan::Decimal;
 use scan::Scanned;
 ghost use mathlib.Core.Path.{_≡_};
@@ -12,7 +11,7 @@ ghost use Rattle.rules.specs.Reader.{reading};
 ghost use Rattle.scan.specs.Scans.{Says};
 ghost use Rattle.closest.specs.Targets.{Targets, Sized};
 ghost use Rattle.reader.specs.Told.{told32, told64};
-ghost use Rattle.reader.specs.Reads.{decimal, Behind, Reads};
+ghost use Rattle.reader.specs.Reads.{decimal, Behind, Reads, Found};
 ghost use Rattle.reader.specs.Spanned.{Spanned};
 
 // How reading as binary32 ended: with a pattern, or refused by the text's length or its form.
@@ -77,7 +76,51 @@ fn magnitude(
     settle::settle(text, from, place - dropped, ends.least, ends.most, t)
 }
 
-// The pattern without a sign that a number reads as at 64 bits, the quick way where it serves.
+// The pattern without a sign that the table shows at once, and 0 where it shows none.
+fn at_once(digits: u64, more: bool, place: u32, t: Target) -> u64
+    requires { ⌜ Sized t ⌝ }
+    ensures { λ r. ⌜ Found digits more place t r ⌝ }
+{
+    if digits == 0 {
+        return 0;
+    }
+    if place < FIRST {
+        return 0;
+    }
+    if LAST < place {
+        return 0;
+    }
+    bounds::at_once(digits, more, (place - FIRST) as usize, t)
+}
+
+// The pattern without a sign that a number reads as at 32 bits, at once where the table serves.
+fn magnitude32(
+    text: &[u8],
+    negative: bool,
+    digits: u64,
+    dropped: u32,
+    more: bool,
+    place: u32,
+) -> u64
+    requires { ⌜ (0 < length (now text)) × (length (now text) ≤ 64) × Says (now text) (decimal negative digits dropped more place) ⌝ }
+    ensures { λ r. ⌜ Reads w32 (now (text .entry)) (decimal negative digits dropped more place) r ⌝ }
+{
+    let v = at_once(digits, more, place, closest::binary32());
+    if 0 < v {
+        return v;
+    }
+    magnitude(
+        text,
+        negative,
+        digits,
+        dropped,
+        more,
+        place,
+        closest::binary32(),
+    )
+}
+
+// The pattern without a sign that a number reads as at 64 bits, at once where the table or an exact power of ten serves.
 fn magnitude64(
     text: &[u8],
     negative: bool,
@@ -89,11 +132,9 @@ fn magnitude64(
     requires { ⌜ (0 < length (now text)) × (length (now text) ≤ 64) × Says (now text) (decimal negative digits dropped more place) ⌝ }
     ensures { λ r. ⌜ Reads w64 (now (text .entry)) (decimal negative digits dropped more place) r ⌝ }
 {
-    if !more {
-        let q = fast::quickly(digits, place);
-        if let Quick::Pattern(v) = q {
-            return v;
-        }
+    let v = at_once(digits, more, place, closest::binary64());
+    if 0 < v {
+        return v;
     }
     magnitude(
         text,
@@ -145,15 +186,7 @@ pub fn read32(text: &[u8]) -> Outcome32
         Scanned::Infinite(negative) => Outcome32::Pattern(signed32(negative, 0x7f800000)),
         Scanned::Number(x) => Outcome32::Pattern(signed32(
             x.negative,
-            magnitude(
-                text,
-                x.negative,
-                x.digits,
-                x.dropped,
-                x.more,
-                x.place,
-                closest::binary32(),
-            ),
+            magnitude32(text, x.negative, x.digits, x.dropped, x.more, x.place),
         )),
     }
 }

@@ -1,51 +1,27 @@
--- `reader::magnitude64` meets its contract: the quick way, or that of both widths. Assumes nothing.
-use mathlib.Core.Bool.{Bool, true, false, not}
-use mathlib.Core.Path.{_≡_, refl, sym, subst}
+-- `reader::magnitude64` meets its contract: at once, or the long way. Assumes nothing.
 use borrow.Author.Needs.{needs}
 use Rattle.rules.specs.Width.{w64}
-use Rattle.fast.specs.Quick.{Finds}
-use Rattle.reader.specs.Reads.{decimal}
 use Rattle.reader.proofs.Extremes.{spanned64}
-use Rattle.reader.proofs.Magnitudes.{by-product}
 use Rattle.reader.proofs.magnitude64.Statement.{statement}
 use Rattle.reader.proofs.magnitude64.Tie as tie
 
-untrue : (b : Bool) → not b ≡ true → b ≡ false
-untrue true e = sym e
-untrue false e = refl
-
-quickly-requires : tie.Need-quickly-requires
-quickly-requires c κs = search needs
-
-enum-known-q : tie.Need-enum-known-q
-enum-known-q c = search needs
-
-returns : tie.Need-returns
-returns c =
-    let s = c .before .before .before .before .before .before in
-    by-product (s .args .text .now) (decimal (s .args .negative) (s .args .digits) (s .args .dropped) (s .args .more) (s .args .place)) _ (untrue (s .args .more) (c .before .before .before .before .if1 .taken))
-    (subst (Finds (s .args .digits) (s .args .place)) (c .before .q .given .1) (c .before .before .before .quickly .ensures))
-
-enum-told : tie.Need-enum-told
-enum-told c = search needs
-
 binary64-requires : tie.Need-binary64-requires
 binary64-requires c κs = search needs
+
+at-once-requires : tie.Need-at-once-requires
+at-once-requires c κs = search needs
+
+returns : tie.Need-returns
+returns c = c .before .at-once .ensures (c .if1 .taken) w64 spanned64 (c .before .before .binary64 .ensures .0) _ _ _
+
+binary64-requires-2 : tie.Need-binary64-requires-2
+binary64-requires-2 c κs = search needs
 
 magnitude-requires : tie.Need-magnitude-requires
 magnitude-requires c κs = search needs
 
 returns-2 : tie.Need-returns-2
-returns-2 c = c .magnitude .ensures w64 spanned64 (c .before .binary64 .ensures .0)
+returns-2 c = c .magnitude .ensures w64 spanned64 (c .before .binary642 .ensures .0)
 
 pub magnitude64-spec : {M : Type 1} → statement M
-magnitude64-spec =
-    tie.close
-    (tie.spec
-    quickly-requires
-    enum-known-q
-    returns
-    enum-told
-    binary64-requires
-    magnitude-requires
-    returns-2)
+magnitude64-spec = tie.close (tie.spec binary64-requires at-once-requires returns binary64-requires-2 magnitude-requires returns-2)

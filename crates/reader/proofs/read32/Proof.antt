@@ -9,7 +9,6 @@ use Rattle.rules.specs.Reader.{quietNaN}
 use Rattle.theorems.proofs.ReadLength.{empty-refused, long-refused}
 use Rattle.scan.specs.Scans.{Scans}
 use Rattle.reader.proofs.Answers.{nothing, a-nan, an-infinity, a-number, no-further}
-use Rattle.reader.proofs.Extremes.{spanned32}
 use Rattle.reader.proofs.read32.Statement.{statement}
 use Rattle.reader.proofs.read32.Tie as tie
 
@@ -37,25 +36,21 @@ signed32-requires c κs = search needs
 enum-known-s-2 : tie.Need-enum-known-s-2
 enum-known-s-2 c = search needs
 
-binary32-requires : tie.Need-binary32-requires
-binary32-requires c κs = search needs
-
-magnitude-requires : tie.Need-magnitude-requires
-magnitude-requires c κs =
-    let s = c .before .before .before .before .before .before .before .before in
-    let scan = c .before .before .before .before in (
+magnitude32-requires : tie.Need-magnitude32-requires
+magnitude32-requires c κs =
+    let s = c .before .before .before .before .before .before .before in
+    let scan = c .before .before .before in (
       omega (arith, scan .before .before .if1 .left),
       omega (arith, scan .before .if2 .left),
-      subst (Scans (s .args .text .now)) (c .before .before .s2 .given .1) (scan .scan .ensures),
-      c .binary32 .ensures .1,
+      subst (Scans (s .args .text .now)) (c .before .s2 .given .1) (scan .scan .ensures),
     )
 
 signed32-requires-2 : tie.Need-signed32-requires-2
 unfolding w32 infinity allOnes
 signed32-requires-2 c κs =
-    let s = c .before .before .before .before .before .before .before .before .before in
-    let says = subst (Scans (s .args .text .now)) (c .before .before .before .s2 .given .1) (c .before .before .before .before .before .scan .ensures) in
-    omega (arith, no-further w32 (s .args .text .now) _ (c .magnitude .result) 0x7f800000 says (c .magnitude .ensures w32 spanned32 (c .before .binary32 .ensures .0)) refl)
+    let s = c .before .before .before .before .before .before .before .before in
+    let says = subst (Scans (s .args .text .now)) (c .before .before .s2 .given .1) (c .before .before .before .before .scan .ensures) in
+    omega (arith, no-further w32 (s .args .text .now) _ (c .magnitude32 .result) 0x7f800000 says (c .magnitude32 .ensures) refl)
 
 returns-3 : tie.Need-returns-3
 returns-3 c =
@@ -82,11 +77,11 @@ returns-5 c =
 
 returns-6 : tie.Need-returns-6
 returns-6 c =
-    let s = c .before .before .before .before .before .before .before .before .before .before in
-    let scan = c .before .before .before .before .before .before in
+    let s = c .before .before .before .before .before .before .before .before .before in
+    let scan = c .before .before .before .before .before in
     a-number w32 (s .args .text .now) (omega (arith, scan .before .before .if1 .left)) (omega (arith, scan .before .if2 .left)) _
-    (subst (Scans (s .args .text .now)) (c .before .before .before .before .s2 .given .1) (scan .scan .ensures)) _ (c .before .magnitude .result)
-    (c .before .magnitude .ensures w32 spanned32 (c .before .before .binary32 .ensures .0)) (c .signed322 .ensures)
+    (subst (Scans (s .args .text .now)) (c .before .before .before .s2 .given .1) (scan .scan .ensures)) _ (c .before .magnitude32 .result)
+    (c .before .magnitude32 .ensures) (c .signed322 .ensures)
 
 pub read32-spec : {M : Type 1} → statement M
 read32-spec =
@@ -100,8 +95,7 @@ read32-spec =
     enum-known-s
     signed32-requires
     enum-known-s-2
-    binary32-requires
-    magnitude-requires
+    magnitude32-requires
     signed32-requires-2
     returns-3
     returns-4
