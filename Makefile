@@ -1,4 +1,4 @@
-# make run        prove and build the program print, and show patterns and their texts side by side
+# make run        prove and build the programs print and read, and show patterns, their texts, and what these are read as
 # make test       the gate: the layout of every file, then `rt ci`, all proofs, must-fail edits and programs from nothing, and beside
 #                 it the archive called from C and Rust and held against the crate and Rust's parse on a sample
 # make test-c     call the archive from C, through include/dtoa.h
@@ -21,10 +21,12 @@
 export DTOA_LIB DTOA_SRC QUICK SEED REPORT BEFORE CHANGE
 
 run:
-	rt check print
+	rt check print read
 	@echo
-	@echo 'Patterns, and their texts as the proved program prints them:'
-	@target/bin/print < examples/patterns.txt | paste examples/patterns.txt -
+	@echo 'Patterns, their texts as the proved program prints them, and the patterns of 32 and of 64 bits that these are read as:'
+	@target/bin/print < examples/patterns.txt > target/texts.txt
+	@target/bin/read < target/texts.txt | paste -d ' ' examples/patterns.txt target/texts.txt - | \
+	    awk '{ printf "%-16s  %-24s  %s %s\n", $$1, $$2, $$3, $$4 }'
 
 test:
 	rt fmt --check
