@@ -2,11 +2,11 @@
 use mathlib.Core.List.{List, [], _∷_, _++_, map}
 use mathlib.Core.Path.{_≡_, refl, sym, ap, ap₂, _∙_}
 use Prim.Native.Nat.{ℕ, zero, suc, _+_, _-_, _*_, _/_, _%_, _^_, _≤_, _<_}
-use native.Mathlib.Nat.{zero-mul, suc-mul, mul-le-mul-right, mul-pos, mod-eq-of-lt, div-add-mod', lt-of-le-of-lt, lt-of-lt-of-le}
+use native.Mathlib.Nat.{zero-mul, suc-mul, mul-le-mul-right, mul-pos, mod-eq-of-lt, div-add-mod', div-one, div-eq-of-lt, div-div-eq-div-mul, lt-of-le-of-lt, lt-of-lt-of-le}
 use native.Mathlib.Omega.{arith}
 use lib.Arith.{digits-div, digits-mod}
 use lib.Bits.{bitAnd, and-block, and-le-l, and-mask, and-zero-r}
-use lib.ListN.{length, getD, replicate, length-map}
+use lib.ListN.{length, getD, drop, replicate, length-map}
 use lib.Pow.{pow-pos, pow-add}
 use Rattle.laws.specs.Lanes.{Below, word, paired}
 
@@ -21,6 +21,18 @@ pub above : (w : ℕ) (xs ys : List ℕ) → word w (xs ++ ys) ≡ word w ys * 2
 unfolding word
 above w [] ys = rw (zero-mul w) (omega arith)
 above w (x ∷ xs) ys = rw (above w xs ys, suc-mul (length xs) w, pow-add 2 (length xs * w) w) (omega arith)
+
+-- The lanes behind the first k.
+pub beyond : (w k : ℕ) (xs : List ℕ) → Below (2 ^ w) xs → word w xs / 2 ^ (k * w) ≡ word w (drop k xs)
+unfolding word
+beyond w zero xs h = rw (zero-mul w) (div-one (word w xs))
+beyond w (suc k) [] h = div-eq-of-lt (pow-pos (suc k * w))
+beyond w (suc k) (x ∷ xs) h =
+    let step : 2 ^ (suc k * w) ≡ 2 ^ w * 2 ^ (k * w) = ap (λ (n : ℕ). 2 ^ n) (omega arith) ∙ pow-add 2 w (k * w) in
+    ap (λ (n : ℕ). (word w xs * 2 ^ w + x) / n) step
+    ∙ sym (div-div-eq-div-mul (word w xs * 2 ^ w + x) (2 ^ w) (2 ^ (k * w)))
+    ∙ ap (λ (n : ℕ). n / 2 ^ (k * w)) (digits-div (word w xs) (h 0))
+    ∙ beyond w k xs (λ i. h (suc i))
 
 -- What is done to every number of a list is done to each.
 pub mapped : (f : ℕ → ℕ) (xs : List ℕ) (i : ℕ) → i < length xs → getD (map f xs) i 0 ≡ f (getD xs i 0)

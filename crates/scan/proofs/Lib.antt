@@ -2,6 +2,7 @@ pub mod Keeping
 pub mod Passing
 pub mod Spelling
 pub mod Loading
+pub mod Filling
 pub mod Going
 pub mod Exponents
 pub mod Signing

@@ -7,7 +7,7 @@ ghost use Rattle.laws.specs.Lanes.{word};
 ghost use Rattle.rules.specs.Bytes.{byte0};
 ghost use Rattle.rules.specs.Reading.{isDigit};
 ghost use Rattle.scan.specs.Passes.{Makes};
-ghost use Rattle.scan.specs.Spells.{Joins, Spells};
+ghost use Rattle.scan.specs.Spells.{Joins, Spells, Fills};
 ghost use Rattle.scan.specs.Goes.{Keeps, Goes, Reaches};
 
 // What is kept of digits.
@@ -139,13 +139,49 @@ fn eight(s: &[u8], at: usize) -> u64
     spelled(word_at(s, at))
 }
 
-// Eight digits more, for which there is room.
-fn longer(held: Held, v: u64) -> Held
-    requires { ⌜ (held .digits < 10 ^ 10) × (v < 10 ^ 8) ⌝ }
-    ensures { λ r. ⌜ (r .dropped ≡ held .dropped) × ((a : ℕ) → Keeps a held → Keeps (a * 10 ^ 8 + v) r) ⌝ }
+// The last n bytes of a word, and the digit 0 in place of those before.
+fn filled(v: u64, n: usize) -> u64
+    requires { ⌜ (0 < n) × (n ≤ 8) ⌝ }
+    ensures { λ r. ⌜ Fills n v r ⌝ }
+{
+    let skip = 64 - 8 * n;
+    (v >> skip << skip) | (0x0030_3030_3030_3030 >> (56 - skip))
+}
+
+// The number that the last n bytes of a text make if all are digits, else 100,000,000.
+fn last(s: &[u8], n: usize) -> u64
+    requires { ⌜ (8 ≤ length (now s)) × (0 < n) × (n ≤ 8) ⌝ }
+    ensures { λ r. ⌜ (r ≤ 100000000) × (r < 100000000 → Makes n (now (s .entry)) (length (now (s .entry)) - n) r) ⌝ }
+{
+    let v = word_at(s, s.len() - 8);
+    spelled(filled(v, n))
+}
+
+// 10^n.
+fn ten_to(n: usize) -> u64
+    requires { ⌜ n ≤ 8 ⌝ }
+    ensures { λ r. ⌜ (r ≡ 10 ^ n) × (r ≤ 10 ^ 8) ⌝ }
+{
+    match n {
+        0 => 1,
+        1 => 10,
+        2 => 100,
+        3 => 1000,
+        4 => 10000,
+        5 => 100000,
+        6 => 1000000,
+        7 => 10000000,
+        _ => 100000000,
+    }
+}
+
+// As many as n digits more, for which there is room.
+fn longer(held: Held, n: usize, v: u64) -> Held
+    requires { ⌜ (held .digits < 10 ^ 10) × (n ≤ 8) × (v < 10 ^ 8) ⌝ }
+    ensures { λ r. ⌜ (r .dropped ≡ held .dropped) × ((a : ℕ) → Keeps a held → Keeps (a * 10 ^ n + v) r) ⌝ }
 {
     Held {
-        digits: held.digits * 100000000 + v,
+        digits: held.digits * ten_to(n) + v,
         dropped: held.dropped,
         more: held.more,
     }
@@ -166,17 +202,50 @@ fn eights(s: &[u8], from: usize, start: Held) -> Run
         if v == 100000000 {
             return Run { at: i, held };
         }
-        held = longer(held, v);
+        held = longer(held, 8, v);
         i += 8;
     }
     Run { at: i, held }
 }
 
-// The digits from a place on, the first of them eight at a time.
+// The digits from a place to the end of the text, if they are eight at most and all are kept.
+fn ending(s: &[u8], from: usize, start: Held) -> Run
+    requires { ⌜ (from ≤ length (now s)) × (length (now s) ≤ 64) ⌝ }
+    ensures { λ r. ⌜ Goes (now (s .entry)) from start (r .at) (r .held) ⌝ }
+{
+    let none = Run {
+        at: from,
+        held: start,
+    };
+    let n = s.len() - from;
+    if s.len() < 8 {
+        return none;
+    }
+    if n == 0 {
+        return none;
+    }
+    if 8 < n {
+        return none;
+    }
+    if 10000000000 <= start.digits {
+        return none;
+    }
+    let v = last(s, n);
+    if v == 100000000 {
+        return none;
+    }
+    Run {
+        at: from + n,
+        held: longer(start, n, v),
+    }
+}
+
+// The digits from a place on: eight at a time, those at the end, and what is left one by one.
 pub fn decimals(s: &[u8], from: usize, start: Held) -> Run
     requires { ⌜ (from ≤ length (now s)) × (length (now s) ≤ 64) × (start .dropped ≤ from) ⌝ }
     ensures { λ r. ⌜ Reaches (now (s .entry)) from start r ⌝ }
 {
     let front = eights(s, from, start);
-    digits(s, front.at, front.held)
+    let most = ending(s, front.at, front.held);
+    digits(s, most.at, most.held)
 }

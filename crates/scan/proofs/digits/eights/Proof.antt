@@ -29,7 +29,7 @@ returns-2 : tie.Need-returns-2 Inv-loop μ-loop
 returns-2 c = c .before .before .before .before .before .loop .inv
 
 longer-requires : tie.Need-longer-requires Inv-loop μ-loop
-longer-requires c κs = (omega arith, omega arith)
+longer-requires c κs = (omega arith, omega arith, omega arith)
 
 add-i : tie.Need-add-i Inv-loop μ-loop
 add-i c = omega arith
