@@ -1,12 +1,14 @@
 -- What is kept of a number that grows by digits. Assumes nothing.
 use mathlib.Core.Bool.{Bool, true, false, true≢false}
 use mathlib.Core.Logic.{_⊎_, ⊎-elim}
-use mathlib.Core.Path.{_≡_, refl, sym, ap}
-use Prim.Native.Nat.{ℕ, zero, suc, _+_, _*_, _^_, _≤_, _<_}
-use native.Mathlib.Nat.{pow-succ'}
+use mathlib.Core.Path.{_≡_, refl, sym, ap, _∙_}
+use Prim.Native.Nat.{ℕ, zero, suc, _+_, _-_, _*_, _^_, _≤_, _<_}
+use native.Mathlib.Nat.{pow-succ', mul-le-mul-left, mul-le-mul-right}
 use native.Mathlib.Numerals.{add-one}
 use native.Mathlib.Omega.{arith}
 use lib.Dec.{lit<}
+use lib.Pow.{pow-add}
+use Rattle.laws.proofs.Powers.{ten-pos}
 use Rattle.scan.specs.Kept.{Kept}
 
 -- Of no digits, nothing.
@@ -68,3 +70,14 @@ module _ {a w d : ℕ} {more : Bool} (k : Kept a w d more) where
         small = k .small;
         full = λ g. full;
       }
+
+-- n digits more fit behind a number that is n digits short of eighteen.
+pub room : (w n v : ℕ) → n ≤ 18 → w < 10 ^ (18 - n) → v < 10 ^ 8 → (w < 10 ^ 18) × (w * 10 ^ n + v < 10 ^ 19)
+room w n v few short small =
+    let all : 10 ^ (18 - n) * 10 ^ n ≡ 10 ^ 18 = sym (pow-add 10 (18 - n) n) ∙ ap (λ (m : ℕ). 10 ^ m) (together n few) in
+    let most : (w + 1) * 10 ^ n ≤ 10 ^ (18 - n) * 10 ^ n = mul-le-mul-right (10 ^ n) (omega arith) in
+    let least : w * 1 ≤ w * 10 ^ n = mul-le-mul-left w (ten-pos n) in
+    (omega (arith, all, most, least, ten-pos n), omega (arith, all, most))
+  where
+    together : (n : ℕ) → n ≤ 18 → 18 - n + n ≡ 18
+    together n few = omega arith

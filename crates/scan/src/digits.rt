@@ -159,8 +159,8 @@ fn last(s: &[u8], n: usize) -> u64
 
 // 10^n.
 fn ten_to(n: usize) -> u64
-    requires { ⌜ n ≤ 8 ⌝ }
-    ensures { λ r. ⌜ (r ≡ 10 ^ n) × (r ≤ 10 ^ 8) ⌝ }
+    requires { ⌜ n ≤ 18 ⌝ }
+    ensures { λ r. ⌜ r ≡ 10 ^ n ⌝ }
 {
     match n {
         0 => 1,
@@ -171,13 +171,23 @@ fn ten_to(n: usize) -> u64
         5 => 100000,
         6 => 1000000,
         7 => 10000000,
-        _ => 100000000,
+        8 => 100000000,
+        9 => 1000000000,
+        10 => 10000000000,
+        11 => 100000000000,
+        12 => 1000000000000,
+        13 => 10000000000000,
+        14 => 100000000000000,
+        15 => 1000000000000000,
+        16 => 10000000000000000,
+        17 => 100000000000000000,
+        _ => 1000000000000000000,
     }
 }
 
 // As many as n digits more, for which there is room.
 fn longer(held: Held, n: usize, v: u64) -> Held
-    requires { ⌜ (held .digits < 10 ^ 10) × (n ≤ 8) × (v < 10 ^ 8) ⌝ }
+    requires { ⌜ (n ≤ 18) × (held .digits < 10 ^ 18) × (held .digits * 10 ^ n + v < 10 ^ 19) ⌝ }
     ensures { λ r. ⌜ (r .dropped ≡ held .dropped) × ((a : ℕ) → Keeps a held → Keeps (a * 10 ^ n + v) r) ⌝ }
 {
     Held {
@@ -227,7 +237,7 @@ fn ending(s: &[u8], from: usize, start: Held) -> Run
     if 8 < n {
         return none;
     }
-    if 10000000000 <= start.digits {
+    if ten_to(18 - n) <= start.digits {
         return none;
     }
     let v = last(s, n);

@@ -5,6 +5,7 @@ use native.Mathlib.Omega.{arith}
 use borrow.Author.Needs.{needs}
 use lib.ListN.{length}
 use Rattle.scan.specs.Passes.{Makes}
+use Rattle.scan.proofs.Keeping.{room}
 use Rattle.scan.proofs.Going.{stays, over}
 use Rattle.scan.proofs.digits.ending.Statement.{statement}
 use Rattle.scan.proofs.digits.ending.Tie as tie
@@ -21,24 +22,35 @@ returns-2 c = stays (c .before .before .before .pre .0)
 returns-3 : tie.Need-returns-3
 returns-3 c = stays (c .before .before .before .before .pre .0)
 
+sub-ten-to : tie.Need-sub-ten-to
+sub-ten-to c = search needs
+
+ten-to-requires : tie.Need-ten-to-requires
+ten-to-requires c κs = search needs
+
 returns-4 : tie.Need-returns-4
-returns-4 c = stays (c .before .before .before .before .before .before .pre .0)
+returns-4 c = stays (c .before .before .before .before .before .before .before .pre .0)
 
 last-requires : tie.Need-last-requires
 last-requires c κs = search needs
 
 returns-5 : tie.Need-returns-5
-returns-5 c = stays (c .before .before .before .before .before .before .before .before .pre .0)
+returns-5 c = stays (c .before .before .before .before .before .before .before .before .before .pre .0)
 
 add-t7 : tie.Need-add-t7
 add-t7 c = search needs
 
 longer-requires : tie.Need-longer-requires
-longer-requires c κs = search needs
+longer-requires c κs =
+    let start = c .before .before .before .before .before .before .before .before .before in
+    let n = length (start .args .s .now) - start .args .from in
+    let v = c .before .last .result in
+    let fits = room (start .args .start .digits) n v (omega arith) (omega arith) (omega arith) in
+    (omega arith, fits .0, fits .1)
 
 returns-6 : tie.Need-returns-6
 returns-6 c =
-    let start = c .before .before .before .before .before .before .before .before .before in
+    let start = c .before .before .before .before .before .before .before .before .before .before in
     let t = start .args .s .now in
     let n = length t - start .args .from in
     let v = c .before .before .last .result in
@@ -54,6 +66,8 @@ ending-spec =
     returns
     returns-2
     returns-3
+    sub-ten-to
+    ten-to-requires
     returns-4
     last-requires
     returns-5
