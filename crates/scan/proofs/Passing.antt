@@ -1,16 +1,16 @@
 -- Digits at the head of a text, and what passes over them. Assumes nothing.
-use mathlib.Core.Bool.{true, false, _&&_}
+use mathlib.Core.Bool.{Bool, true, false, _&&_}
 use mathlib.Core.List.{List, _∷_}
-use mathlib.Core.Path.{_≡_, _∙_}
+use mathlib.Core.Path.{_≡_, refl, _∙_}
 use Prim.Native.Nat.{ℕ, suc, _+_, _-_, _*_, _^_, _≤_, _<_}
 use native.Mathlib.Nat.{add-zero, zero-add, suc-add}
 use native.Mathlib.Numerals.{add-one}
 use native.Mathlib.Omega.{arith}
-use lib.Dec.{T, leb, ltb, leb→le, ltb→lt}
+use lib.Dec.{T, leb, ltb, leb→le, ltb→lt, le→leb, lt→ltb}
 use lib.ListN.{length, getD, drop, drop-of-length-le}
 use lib.Pow.{pow-add}
 use lib.Seq.{drop-cons}
-use Rattle.laws.proofs.Branches.{and-left, and-right}
+use Rattle.laws.proofs.Branches.{is-true, and-left, and-right, and-both}
 use Rattle.rules.specs.Bytes.{byte0}
 use Rattle.rules.specs.Reading.{isDigit, extended}
 use Rattle.scan.specs.Heads.{starts}
@@ -22,6 +22,20 @@ unfolding isDigit
 digit-range b e =
     let t : T (leb byte0 b && ltb b (byte0 + 10)) = rw e tt in
     (leb→le byte0 b (and-left (leb byte0 b) (ltb b (byte0 + 10)) t), ltb→lt b (byte0 + 10) (and-right (leb byte0 b) (ltb b (byte0 + 10)) t))
+
+pub in-range : (b : ℕ) → byte0 ≤ b → b < byte0 + 10 → isDigit b ≡ true
+unfolding isDigit
+in-range b least most =
+    let low = leb byte0 b in
+    let high = ltb b (byte0 + 10) in
+    is-true (low && high) (and-both low high (le→leb byte0 b least) (lt→ltb b (byte0 + 10) most))
+
+pub out-of-range : (b : ℕ) → (byte0 ≤ b → byte0 + 10 ≤ b) → isDigit b ≡ false
+out-of-range b apart = told (isDigit b) (λ e. let range = digit-range b e in omega (arith, range .1, apart (range .0)))
+  where
+    told : (t : Bool) → (t ≡ true → ⊥) → t ≡ false
+    told true f = absurd (f refl)
+    told false f = refl
 
 -- The text from a place on is the byte there and the rest.
 pub cons : (s : List ℕ) (i : ℕ) → i < length s → drop i s ≡ getD s i 0 ∷ drop (i + 1) s

@@ -1,20 +1,20 @@
 -- Eight bytes in one word: whether all are digits, and the number that they make. Assumes nothing.
-use mathlib.Core.Bool.{true, _&&_}
+use mathlib.Core.Bool.{true}
 use mathlib.Core.List.{List, [], _∷_, map}
 use mathlib.Core.Path.{_≡_, refl, sym, ap, subst, _∙_}
 use Prim.Native.Nat.{ℕ, zero, suc, _+_, _-_, _*_, _/_, _%_, _≤_, _<_}
 use native.Mathlib.Nat.{mod-eq-of-lt}
 use native.Mathlib.Omega.{arith}
 use lib.Bits.{bitAnd, and-high, and-mask, and-le-r}
-use lib.Dec.{leb, ltb, lit<, lit≤, le→leb, lt→ltb}
+use lib.Dec.{lit<, lit≤}
 use lib.ListN.{length, getD, replicate, drop, length-map}
 use Rattle.laws.specs.Lanes.{Below, word, paired}
-use Rattle.laws.proofs.Branches.{is-true, and-both}
 use Rattle.laws.proofs.Lanes.{mapped, mapped-below, masked, added, tested, paired-below, pairs}
 use Rattle.rules.specs.Bytes.{byte0}
 use Rattle.rules.specs.Reading.{isDigit, extended}
 use Rattle.scan.specs.Passes.{Passes, none, more}
 use Rattle.scan.specs.Spells.{Joins, Spells}
+use Rattle.scan.proofs.Passing.{in-range}
 
 -- The upper half of a byte.
 upper-half : (b : ℕ) → b < 256 → bitAnd b 0xF0 ≡ b / 16 * 16
@@ -27,7 +27,6 @@ pub record Digit (b : ℕ) : Type 0 where
   pub small : bitAnd b 0x0F < 10
 
 pub digit-byte : (b : ℕ) → b < 256 → bitAnd b 0xF0 ≡ 0x30 → bitAnd (bitAnd b 0x0F + 6) 0xF0 ≡ 0 → Digit b
-unfolding isDigit
 digit-byte b byte upper lower =
     let low : bitAnd b 0x0F ≡ b % 16 = and-mask b 4 in
     let six : bitAnd b 0x0F + 6 < 256 = omega (arith, and-le-r b 0x0F) in
@@ -36,7 +35,7 @@ digit-byte b byte upper lower =
     let least : 48 ≤ b = omega arith in
     let most : b < 58 = omega arith in
     record {
-      digit = is-true (leb 48 b && ltb b 58) (and-both (leb 48 b) (ltb b 58) (le→leb 48 b least) (lt→ltb b 58 most));
+      digit = in-range b least most;
       value = omega arith;
       small = omega arith;
     }

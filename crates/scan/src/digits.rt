@@ -1,5 +1,5 @@
 // Digits: one by one, or eight at a time, with what is kept of the number they make.
-ghost use mathlib.Core.Bool.{true};
+ghost use mathlib.Core.Bool.{true, false};
 ghost use mathlib.Core.Path.{_≡_};
 ghost use Prim.Native.Nat.{ℕ, _+_, _-_, _*_, _^_, _<_, _≤_};
 ghost use lib.ListN.{length, take, drop};
@@ -33,12 +33,11 @@ pub fn is_digit(b: u8) -> bool
     b < b':'
 }
 
-// The value of a digit.
+// The value of a digit; more than 9 of any other byte.
 pub fn value(b: u8) -> u64
-    requires { ⌜ isDigit b ≡ true ⌝ }
-    ensures { λ r. ⌜ (r ≡ b - byte0) × (r < 10) ⌝ }
+    ensures { λ r. ⌜ (9 < r → isDigit b ≡ false) × (r ≤ 9 → (isDigit b ≡ true) × (r ≡ b - byte0)) ⌝ }
 {
-    (b - b'0') as u64
+    std::num::wrapping_sub_u64(b as u64, 48)
 }
 
 // One digit more: kept where there is room for it.
@@ -75,11 +74,11 @@ pub fn digits(s: &[u8], from: usize, start: Held) -> Run
     let mut held = start;
     let mut i = from;
     while i < s.len() {
-        let b = s[i];
-        if !is_digit(b) {
+        let digit = value(s[i]);
+        if 9 < digit {
             return Run { at: i, held };
         }
-        held = push(held, value(b));
+        held = push(held, digit);
         i += 1;
     }
     Run { at: i, held }

@@ -25,11 +25,11 @@ fn exponent_digits(s: &[u8], from: usize) -> u32
     let mut e: u32 = 0;
     let mut i = from;
     while i < s.len() {
-        let b = s[i];
-        if !digits::is_digit(b) {
+        let digit = digits::value(s[i]);
+        if 9 < digit {
             return 10000;
         }
-        e = e * 10 + digits::value(b) as u32;
+        e = e * 10 + digit as u32;
         i += 1;
     }
     e

@@ -1,9 +1,8 @@
 -- `scan::digits::digits` meets its contract: each turn goes over one digit. Assumes nothing.
-use mathlib.Core.Path.{sym, _∙_}
+use mathlib.Core.Path.{_∙_}
 use Prim.Native.Nat.{_-_}
 use native.Mathlib.Omega.{arith}
 use borrow.Author.Needs.{needs}
-use borrow.Author.Tests.{not-true, not-false}
 use lib.ListN.{length}
 use Rattle.scan.specs.Goes.{Goes}
 use Rattle.scan.proofs.Passing.{one, starts-at, ends-at}
@@ -20,23 +19,20 @@ abbrev μ-loop : tie.MeasureT-loop
 loop-holds : tie.Need-loop-holds Inv-loop μ-loop
 loop-holds c = stays (c .before .pre .0)
 
-shared-slice-read-b : tie.Need-shared-slice-read-b Inv-loop μ-loop
-shared-slice-read-b c = omega arith
+shared-slice-read-value : tie.Need-shared-slice-read-value Inv-loop μ-loop
+shared-slice-read-value c = omega arith
 
-is-digit-requires : tie.Need-is-digit-requires Inv-loop μ-loop
-is-digit-requires c κs = search needs
+value-requires : tie.Need-value-requires Inv-loop μ-loop
+value-requires c κs = search needs
 
 returns : tie.Need-returns Inv-loop μ-loop
 returns c =
     let at-loop = c .before .before .before .before in
-    let none = sym (c .before .is-digit .ensures) ∙ not-true _ (c .if1 .taken) in
+    let none = c .before .value .ensures .0 (c .if1 .taken) in
     record { goes = at-loop .loop .inv; ends = starts-at (at-loop .before .before .args .s .now) (at-loop .loop .i) (omega arith) ∙ none }
 
-value-requires : tie.Need-value-requires Inv-loop μ-loop
-value-requires c κs = sym (c .before .is-digit .ensures) ∙ not-false _ (c .if1 .left)
-
 push-requires : tie.Need-push-requires Inv-loop μ-loop
-push-requires c κs = (c .value .ensures .1, omega arith)
+push-requires c κs = (omega arith, omega arith)
 
 add-i : tie.Need-add-i Inv-loop μ-loop
 add-i c = omega arith
@@ -46,10 +42,10 @@ loop-less c = omega arith
 
 loop-again : tie.Need-loop-again Inv-loop μ-loop
 loop-again c =
-    let valued = c .before in
-    let at-loop = valued .before .before .before .before .before in
-    let digit = sym (valued .before .before .is-digit .ensures) ∙ not-false _ (valued .before .if1 .left) in
-    then (at-loop .loop .inv) (over 1 (omega arith) (one _ _ _ (omega arith) digit (valued .value .ensures .0)) (c .push .ensures .0) (c .push .ensures .1))
+    let tested = c .before in
+    let at-loop = tested .before .before .before .before in
+    let digit = tested .before .value .ensures .1 (omega arith) in
+    then (at-loop .loop .inv) (over 1 (omega arith) (one _ _ _ (omega arith) (digit .0) (digit .1)) (c .push .ensures .0) (c .push .ensures .1))
 
 returns-2 : tie.Need-returns-2 Inv-loop μ-loop
 returns-2 c =
@@ -63,10 +59,9 @@ digits-spec =
     Inv-loop
     μ-loop
     loop-holds
-    shared-slice-read-b
-    is-digit-requires
-    returns
+    shared-slice-read-value
     value-requires
+    returns
     push-requires
     add-i
     loop-less

@@ -1,19 +1,17 @@
--- `scan::digits::value` meets its contract: a digit's byte is not below that of 0, nor 10 above it. Assumes nothing.
-use mathlib.Core.Path.{refl}
+-- `scan::digits::value` meets its contract: what is below a digit 0 wraps around, and so is above 9 too. Assumes nothing.
 use native.Mathlib.Omega.{arith}
 use borrow.Author.Needs.{needs}
-use Rattle.scan.proofs.Passing.{digit-range}
+use Rattle.scan.proofs.Passing.{in-range, out-of-range}
 use Rattle.scan.proofs.digits.value.Statement.{statement}
 use Rattle.scan.proofs.digits.value.Tie as tie
 
-sub-result : tie.Need-sub-result
-sub-result c = digit-range _ (c .pre) .0
-
-cast-result : tie.Need-cast-result
-cast-result c = search needs
+wrapping-sub-u64-requires : tie.Need-wrapping-sub-u64-requires
+wrapping-sub-u64-requires c κs = search needs
 
 returns : tie.Need-returns
-returns c = (refl, omega (arith, digit-range _ (c .pre)))
+returns c =
+    let b = c .before .args .b in
+    (λ more. out-of-range b (λ least. omega arith), λ few. (in-range b (omega arith) (omega arith), omega arith))
 
 pub value-spec : {M : Type 1} → statement M
-value-spec = tie.close (tie.spec sub-result cast-result returns)
+value-spec = tie.close (tie.spec wrapping-sub-u64-requires returns)

@@ -1,8 +1,6 @@
 -- `scan::power::exponent_digits` meets its contract: each turn counts one digit. Assumes nothing.
-use mathlib.Core.Path.{sym, _∙_}
 use Prim.Native.Nat.{_-_}
 use native.Mathlib.Omega.{arith}
-use borrow.Author.Tests.{not-true, not-false}
 use borrow.Author.Needs.{needs}
 use lib.ListN.{length, length-drop}
 use Rattle.scan.proofs.Exponents.{Counted, begun, continued, broken, complete, below-limit, too-many, too-few, none-counted}
@@ -27,29 +25,25 @@ returns-2 c = none-counted (λ a n below. too-many a n below _ (simp length-drop
 loop-holds : tie.Need-loop-holds Inv-loop μ-loop
 loop-holds c = begun _ _ (omega arith)
 
-shared-slice-read-b : tie.Need-shared-slice-read-b Inv-loop μ-loop
-shared-slice-read-b c = omega arith
+shared-slice-read-value : tie.Need-shared-slice-read-value Inv-loop μ-loop
+shared-slice-read-value c = omega arith
 
-is-digit-requires : tie.Need-is-digit-requires Inv-loop μ-loop
-is-digit-requires c κs = search needs
+value-requires : tie.Need-value-requires Inv-loop μ-loop
+value-requires c κs = search needs
 
 returns-3 : tie.Need-returns-3 Inv-loop μ-loop
 returns-3 c =
     let at-loop = c .before .before .before .before in
-    let none = sym (c .before .is-digit .ensures) ∙ not-true _ (c .if3 .taken) in
-    none-counted (broken (at-loop .loop .inv) (omega arith) none)
+    none-counted (broken (at-loop .loop .inv) (omega arith) (c .before .value .ensures .0 (c .if3 .taken)))
 
 mul-e : tie.Need-mul-e Inv-loop μ-loop
 mul-e c = omega (arith, below-limit (c .before .before .before .before .loop .inv) (omega arith))
-
-value-requires : tie.Need-value-requires Inv-loop μ-loop
-value-requires c κs = sym (c .before .is-digit .ensures) ∙ not-false _ (c .if3 .left)
 
 cast-e : tie.Need-cast-e Inv-loop μ-loop
 cast-e c = omega arith
 
 add-e : tie.Need-add-e Inv-loop μ-loop
-add-e c = omega (arith, below-limit (c .before .before .before .before .before .loop .inv) (omega arith))
+add-e c = omega (arith, below-limit (c .before .before .before .before .loop .inv) (omega arith))
 
 add-i : tie.Need-add-i Inv-loop μ-loop
 add-i c = omega arith
@@ -59,10 +53,9 @@ loop-less c = omega arith
 
 loop-again : tie.Need-loop-again Inv-loop μ-loop
 loop-again c =
-    let tested = c .before in
-    let at-loop = tested .before .before .before .before in
-    let digit = sym (tested .before .is-digit .ensures) ∙ not-false _ (tested .if3 .left) in
-    continued (at-loop .loop .inv) _ (omega arith) (omega arith) digit (c .value .ensures .0)
+    let at-loop = c .before .before .before .before in
+    let digit = c .before .value .ensures .1 (omega arith) in
+    continued (at-loop .loop .inv) _ (omega arith) (omega arith) (digit .0) (digit .1)
 
 returns-4 : tie.Need-returns-4 Inv-loop μ-loop
 returns-4 c =
@@ -80,11 +73,10 @@ exponent-digits-spec =
     returns
     returns-2
     loop-holds
-    shared-slice-read-b
-    is-digit-requires
+    shared-slice-read-value
+    value-requires
     returns-3
     mul-e
-    value-requires
     cast-e
     add-e
     add-i
