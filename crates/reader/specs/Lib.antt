@@ -1,3 +1,4 @@
 pub mod Told
 pub mod Spanned
 pub mod Reads
+pub mod Measures

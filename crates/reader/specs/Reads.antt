@@ -1,5 +1,5 @@
 -- What a number that was scanned reads as. Assumes nothing.
-use Prim.Native.Nat.{ℕ, _*_, _^_, _≤_, _<_}
+use Prim.Native.Nat.{ℕ, _*_, _^_, _≤_}
 use mathlib.Core.Bool.{Bool}
 use mathlib.Core.List.{List}
 use mathlib.Core.Path.{_≡_}
@@ -9,9 +9,6 @@ use Rattle.rules.specs.Reading.{nearest}
 use Rattle.scan.specs.declared.Decimal.{Decimal}
 use Rattle.scan.specs.Mantissa.{mantissa, behindSign}
 use Rattle.scan.specs.Scans.{Says}
-use Rattle.closest.specs.declared.Target.{Target}
-use Rattle.closest.specs.Targets.{Targets}
-use Rattle.reader.specs.Spanned.{Spanned}
 
 -- A scanned number by its parts.
 abbrev pub decimal : Bool → ℕ → ℕ → Bool → ℕ → Decimal
@@ -20,11 +17,6 @@ decimal negative digits dropped more place = record { negative = negative; digit
 -- The pattern v, without a sign, is the nearest to the number x that the text t says.
 abbrev pub Reads : Width → List ℕ → Decimal → ℕ → Type 0
 Reads w t x v = (s : Says t x) → v ≡ nearest w (mantissa 0 (behindSign (x .negative) t) * 10 ^ s .up) (10 ^ s .down)
-
--- A pattern other than 0 is the nearest to each number with these digits at this place.
-abbrev pub Found : ℕ → Bool → ℕ → Target → ℕ → Type 0
-Found digits more place T v =
-    0 < v → (w : Width) → Spanned w → Targets T w → (t : List ℕ) (negative : Bool) (dropped : ℕ) → Reads w t (decimal negative digits dropped more place) v
 
 -- The digits of every text with this sign begin at the place `from`.
 pub record Behind (negative : Bool) (from : ℕ) : Type 0 where

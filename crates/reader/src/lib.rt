@@ -1,4 +1,5 @@
 // Reading a text as the nearest pattern of binary32 or binary64.
+use bounds::Product;
 use closest::Target;
 use scan::Decimal;
 use scan::Scanned;
@@ -11,7 +12,8 @@ ghost use Rattle.rules.specs.Reader.{reading};
 ghost use Rattle.scan.specs.Scans.{Says};
 ghost use Rattle.closest.specs.Targets.{Targets, Sized};
 ghost use Rattle.reader.specs.Told.{told32, told64};
-ghost use Rattle.reader.specs.Reads.{decimal, Behind, Reads, Found};
+ghost use Rattle.reader.specs.Reads.{decimal, Behind, Reads};
+ghost use Rattle.reader.specs.Measures.{Scaled, Measures};
 ghost use Rattle.reader.specs.Spanned.{Spanned};
 
 // How reading as binary32 ended: with a pattern, or refused by the text's length or its form.
@@ -27,6 +29,20 @@ pub enum Outcome64 {
     WrongLength,
     WrongForm,
 }
+
+// What a text says, a number with the product that bounds it.
+enum Measured {
+    Refused,
+    NotANumber,
+    Infinite(bool),
+    Number(Decimal, Product),
+}
+
+// A product that bounds nothing.
+const NONE: Product = Product {
+    upper: 0,
+    exponent: 0,
+};
 
 // The longest text that is read.
 const LONGEST: usize = 64;
@@ -46,17 +62,49 @@ fn behind_sign(negative: bool) -> usize
     0
 }
 
-// The pattern without a sign that a number reads as at a width, by the table, and where that leaves two open by exact comparison.
-fn magnitude(
+// The product of digits and their power of ten, where the table has it, and elsewhere one without an exponent.
+fn scaled(digits: u64, place: u32) -> Product
+    ensures { λ r. ⌜ Scaled digits place (r .upper) (r .exponent) ⌝ }
+{
+    if digits == 0 {
+        return NONE;
+    }
+    if place < FIRST {
+        return NONE;
+    }
+    if LAST < place {
+        return NONE;
+    }
+    bounds::multiplied(digits, (place - FIRST) as usize)
+}
+
+// What a text says, a number with its product. Both widths read so far alike.
+fn measure(text: &[u8]) -> Measured
+    requires { ⌜ (0 < length (now text)) × (length (now text) ≤ 64) ⌝ }
+    ensures { λ r. ⌜ Measures (now (text .entry)) r ⌝ }
+{
+    let s = scan::scan(text);
+    match s {
+        Scanned::Refused => Measured::Refused,
+        Scanned::NotANumber => Measured::NotANumber,
+        Scanned::Infinite(negative) => Measured::Infinite(negative),
+        Scanned::Number(x) => Measured::Number(x, scaled(x.digits, x.place)),
+    }
+}
+
+// The pattern without a sign that a number reads as at a width, by both ends of its product, and where those differ by exact comparison.
+fn compared(
     text: &[u8],
     negative: bool,
     digits: u64,
     dropped: u32,
     more: bool,
     place: u32,
+    p: Product,
     t: Target,
 ) -> u64
-    requires { ⌜ (0 < length (now text)) × (length (now text) ≤ 64) × Says (now text) (decimal negative digits dropped more place) × Sized t ⌝ }
+    requires { ⌜ (0 < length (now text)) × (length (now text) ≤ 64) × Says (now text) (decimal negative digits dropped more place) ×
+        Scaled digits place (p .upper) (p .exponent) × Sized t ⌝ }
     ensures { λ r. ⌜ ((w : Width) → Spanned w → Targets t w → Reads w (now (text .entry)) (decimal negative digits dropped more place) r) ⌝ }
 {
     if digits == 0 {
@@ -68,7 +116,7 @@ fn magnitude(
     if LAST < place {
         return closest::infinity(t);
     }
-    let ends = bounds::around(digits, more, (place - FIRST) as usize, t);
+    let ends = bounds::around(p.upper, more, p.exponent, t);
     if ends.least == ends.most {
         return ends.least;
     }
@@ -76,24 +124,7 @@ fn magnitude(
     settle::settle(text, from, place - dropped, ends.least, ends.most, t)
 }
 
-// The pattern without a sign that the table shows at once, and 0 where it shows none.
-fn at_once(digits: u64, more: bool, place: u32, t: Target) -> u64
-    requires { ⌜ Sized t ⌝ }
-    ensures { λ r. ⌜ Found digits more place t r ⌝ }
-{
-    if digits == 0 {
-        return 0;
-    }
-    if place < FIRST {
-        return 0;
-    }
-    if LAST < place {
-        return 0;
-    }
-    bounds::at_once(digits, more, (place - FIRST) as usize, t)
-}
-
-// The pattern without a sign that a number reads as at 32 bits, at once where the table serves.
+// The same at 32 bits, at once where the product shows it.
 fn magnitude32(
     text: &[u8],
     negative: bool,
@@ -101,26 +132,31 @@ fn magnitude32(
     dropped: u32,
     more: bool,
     place: u32,
+    p: Product,
 ) -> u64
-    requires { ⌜ (0 < length (now text)) × (length (now text) ≤ 64) × Says (now text) (decimal negative digits dropped more place) ⌝ }
+    requires { ⌜ (0 < length (now text)) × (length (now text) ≤ 64) × Says (now text) (decimal negative digits dropped more place) ×
+        Scaled digits place (p .upper) (p .exponent) ⌝ }
     ensures { λ r. ⌜ Reads w32 (now (text .entry)) (decimal negative digits dropped more place) r ⌝ }
 {
-    let v = at_once(digits, more, place, closest::binary32());
-    if 0 < v {
-        return v;
+    if 0 < p.exponent {
+        let v = bounds::at_once(p.upper, more, p.exponent, closest::binary32());
+        if 0 < v {
+            return v;
+        }
     }
-    magnitude(
+    compared(
         text,
         negative,
         digits,
         dropped,
         more,
         place,
+        p,
         closest::binary32(),
     )
 }
 
-// The pattern without a sign that a number reads as at 64 bits, at once where the table or an exact power of ten serves.
+// The same at 64 bits.
 fn magnitude64(
     text: &[u8],
     negative: bool,
@@ -128,21 +164,26 @@ fn magnitude64(
     dropped: u32,
     more: bool,
     place: u32,
+    p: Product,
 ) -> u64
-    requires { ⌜ (0 < length (now text)) × (length (now text) ≤ 64) × Says (now text) (decimal negative digits dropped more place) ⌝ }
+    requires { ⌜ (0 < length (now text)) × (length (now text) ≤ 64) × Says (now text) (decimal negative digits dropped more place) ×
+        Scaled digits place (p .upper) (p .exponent) ⌝ }
     ensures { λ r. ⌜ Reads w64 (now (text .entry)) (decimal negative digits dropped more place) r ⌝ }
 {
-    let v = at_once(digits, more, place, closest::binary64());
-    if 0 < v {
-        return v;
+    if 0 < p.exponent {
+        let v = bounds::at_once(p.upper, more, p.exponent, closest::binary64());
+        if 0 < v {
+            return v;
+        }
     }
-    magnitude(
+    compared(
         text,
         negative,
         digits,
         dropped,
         more,
         place,
+        p,
         closest::binary64(),
     )
 }
@@ -179,14 +220,14 @@ pub fn read32(text: &[u8]) -> Outcome32
     if LONGEST < text.len() {
         return Outcome32::WrongLength;
     }
-    let s = scan::scan(text);
+    let s = measure(text);
     match s {
-        Scanned::Refused => Outcome32::WrongForm,
-        Scanned::NotANumber => Outcome32::Pattern(0x7fc00000),
-        Scanned::Infinite(negative) => Outcome32::Pattern(signed32(negative, 0x7f800000)),
-        Scanned::Number(x) => Outcome32::Pattern(signed32(
+        Measured::Refused => Outcome32::WrongForm,
+        Measured::NotANumber => Outcome32::Pattern(0x7fc00000),
+        Measured::Infinite(negative) => Outcome32::Pattern(signed32(negative, 0x7f800000)),
+        Measured::Number(x, p) => Outcome32::Pattern(signed32(
             x.negative,
-            magnitude32(text, x.negative, x.digits, x.dropped, x.more, x.place),
+            magnitude32(text, x.negative, x.digits, x.dropped, x.more, x.place, p),
         )),
     }
 }
@@ -201,14 +242,14 @@ pub fn read64(text: &[u8]) -> Outcome64
     if LONGEST < text.len() {
         return Outcome64::WrongLength;
     }
-    let s = scan::scan(text);
+    let s = measure(text);
     match s {
-        Scanned::Refused => Outcome64::WrongForm,
-        Scanned::NotANumber => Outcome64::Pattern(0x7ff8000000000000),
-        Scanned::Infinite(negative) => Outcome64::Pattern(signed64(negative, 0x7ff0000000000000)),
-        Scanned::Number(x) => Outcome64::Pattern(signed64(
+        Measured::Refused => Outcome64::WrongForm,
+        Measured::NotANumber => Outcome64::Pattern(0x7ff8000000000000),
+        Measured::Infinite(negative) => Outcome64::Pattern(signed64(negative, 0x7ff0000000000000)),
+        Measured::Number(x, p) => Outcome64::Pattern(signed64(
             x.negative,
-            magnitude64(text, x.negative, x.digits, x.dropped, x.more, x.place),
+            magnitude64(text, x.negative, x.digits, x.dropped, x.more, x.place, p),
         )),
     }
 }

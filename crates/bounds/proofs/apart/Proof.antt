@@ -21,7 +21,7 @@ abbrev half : tie.Start → ℕ
 half s = 1 * 2 ^ (62 - s .args .t .fraction) % 2 ^ 64
 
 filled : (s : tie.Start) → Fills 64 (s .args .m) (short s)
-filled s = shifted (s .args .m) (s .pre .0) (omega arith)
+filled s = shifted (s .args .m) (s .pre .0 .high) (omega arith)
 
 full-is : (s : tie.Start) → full s ≡ s .args .m * 2 ^ short s
 full-is s = mod-eq-of-lt (filled s .fits)
@@ -30,7 +30,7 @@ half-is : (s : tie.Start) → half s ≡ 2 ^ (62 - s .args .t .fraction)
 half-is s = one-shifted (62 - s .args .t .fraction) (omega arith)
 
 least : (s : tie.Start) → 2 ^ 10 ≤ half s
-least s = half-least (s .args .t .fraction) (half s) (s .pre .4 .few) (half-is s)
+least s = half-least (s .args .t .fraction) (half s) (s .pre .2 .few) (half-is s)
 
 most : (s : tie.Start) → half s ≤ 2 ^ 62
 most s = half-most (s .args .t .fraction) (half s) (half-is s)
@@ -50,7 +50,7 @@ twice s = omega (arith, mul-le-mul-left (s .args .far) (pow-mono {i = short s} {
 place-few : (c : tie.After-struct-known6) → nextPlace (full (c .before .before .before .before .before .before .before .before .before)) (half (c .before .before .before .before .before .before .before .before .before)) (2 * c .before .before .before .before .before .before .before .before .before .args .far) ≤ 2 * 2 ^ c .before .before .before .before .before .before .before .before .before .args .t .fraction
 place-few c =
     let s = c .before .before .before .before .before .before .before .before .before in
-    place-most (s .args .t) (s .pre .4) (full s) (half s) (2 * s .args .far) (full-high s) (omega arith) (half-is s) (omega arith) (c .before .if3 .left)
+    place-most (s .args .t) (s .pre .2) (full s) (half s) (2 * s .args .far) (full-high s) (omega arith) (half-is s) (omega arith) (c .before .if3 .left)
 
 cast-short : tie.Need-cast-short
 cast-short c = search needs
@@ -130,21 +130,21 @@ div-result c = omega (arith, least (c .before .before .before .before .before .b
 add-result : tie.Need-add-result
 add-result c =
     let s = c .before .before .before .before .before .before .before .before .before in
-    omega (arith, place-few c, pow-mono {i = s .args .t .fraction} {j = 52} (s .pre .4 .few))
+    omega (arith, place-few c, pow-mono {i = s .args .t .fraction} {j = 52} (s .pre .2 .few))
 
 add-result-2 : tie.Need-add-result-2
 add-result-2 c =
     let s = c .before .before .before .before .before .before .before .before .before in
     let t = s .args .t in
-    omega (arith, placed (s .pre .4) (field s) (omega arith), place-few c, mul-le-mul-right (2 ^ t .fraction) (c .before .before .before .if2 .left), s .pre .4 .fits)
+    omega (arith, placed (s .pre .2) (field s) (omega arith), place-few c, mul-le-mul-right (2 ^ t .fraction) (c .before .before .before .if2 .left), s .pre .2 .fits)
 
 returns-4 : tie.Need-returns-4
 returns-4 c some w r g =
     let s = c .before .before .before .before .before .before .before .before .before in
     let t = s .args .t in
-    both-ends t (s .pre .4) (full s) (half s) (2 * s .args .far) (full-high s) (omega arith) (half-is s) (omega arith) (c .before .if3 .left)
+    both-ends t (s .pre .2) (full s) (half s) (2 * s .args .far) (full-high s) (omega arith) (half-is s) (omega arith) (c .before .if3 .left)
     g r (s .args .e - short s) (field s) (omega arith) (omega arith)
-    (s .args .m) (s .args .far) (short s) (s .args .e) _ (full-is s) (omega arith) (twice s) (placed (s .pre .4) (field s) (omega arith))
+    (s .args .m) (s .args .far) (short s) (s .args .e) _ (full-is s) (omega arith) (twice s) (placed (s .pre .2) (field s) (omega arith))
 
 pub apart-spec : {M : Type 1} → statement M
 apart-spec =

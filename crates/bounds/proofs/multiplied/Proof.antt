@@ -41,9 +41,11 @@ returns c =
     let entry = c .before .before .leading .ensures in
     let is = c .before .mul-high .ensures in
     record {
-      high = product-high (s .args .w) (s .args .i) _ _ (s .pre .0) (omega arith) (omega arith) entry is;
-      some = omega (arith, few s);
-      few = omega (arith, few s);
+      raised = record {
+        high = product-high (s .args .w) (s .args .i) _ _ (s .pre .0) (omega arith) (omega arith) entry is;
+        some = omega (arith, few s);
+        few = omega (arith, few s);
+      };
       reads = bounded (s .args .w) (s .args .i) _ _ (s .pre .0) (omega arith) (omega arith) entry is _ (omega (arith, few s));
     }
 
