@@ -48,12 +48,13 @@ module _ (digits i x m : ℕ) (some : 0 < digits) (fits : digits < 2 ^ 64) (x-fi
       rw m-is (le-div-iff-mul-le (pow-pos 64) .1 full)
 
   -- The number lies from m units on to as many above as are open.
-  pub bounded : (e : ℕ) → e + leadingZeros 64 digits ≡ 64 + exponent i → (w : Width) → Readable w → (more : Bool) (far : ℕ) → Opens more far → (a d up down : ℕ) →
-      Kept a digits d more → i + down ≡ 342 + (up + d) →
+  pub bounded : (e : ℕ) → e + leadingZeros 64 digits ≡ 64 + exponent i → (w : Width) → Readable w → (more : Bool) (far : ℕ) → Opens more far →
+      (a d up down : ℕ) → Kept a digits d more → i + down ≡ 342 + (up + d) →
       Within (nearest w (a * 10 ^ up) (10 ^ down)) (nearest w (m * 2 ^ e) (2 ^ 1200)) (nearest w ((m + far) * 2 ^ e) (2 ^ 1200))
   bounded e shift w r more far opens a d up down kept at =
       record {
-        above = at-least w r a d up down i x (leadingZeros 64 digits) e at shift l digits m (kept .low) (product-least (digits * 2 ^ leadingZeros 64 digits) x m m-is);
+        above = at-least w r a d up down i x (leadingZeros 64 digits) e at shift l digits m (kept .low)
+            (product-least (digits * 2 ^ leadingZeros 64 digits) x m m-is);
         below = upper more opens kept;
       }
     where

@@ -74,7 +74,8 @@ unfoldable pub midpoint : Width → ℕ → ℕ
 midpoint w x = unitsOf (w .S) x + unitsOf (w .S) (suc x)
 
 -- It is that of a pattern with significand q at the place k ..
-pub midpoint-at : (w : Width) (p k q : ℕ) → k * 2 ^ w .S + q ≡ p → q < 2 * 2 ^ w .S → (0 < k → 2 ^ w .S ≤ q) → midpoint w p ≡ (2 * q + 1) * 2 ^ k
+pub midpoint-at : (w : Width) (p k q : ℕ) → k * 2 ^ w .S + q ≡ p → q < 2 * 2 ^ w .S → (0 < k → 2 ^ w .S ≤ q) →
+    midpoint w p ≡ (2 * q + 1) * 2 ^ k
 unfolding midpoint place
 midpoint-at w p k q is fits hidden = let s = place (w .S) k q p is fits hidden in omega (arith, s .units, s .next)
 

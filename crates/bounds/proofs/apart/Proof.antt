@@ -46,10 +46,14 @@ field s = s .args .e - short s + (63 - s .args .t .fraction) - s .args .t .base
 twice : (s : tie.Start) → s .args .far * 2 ^ short s ≤ 2 * s .args .far
 twice s = omega (arith, mul-le-mul-left (s .args .far) (pow-mono {i = short s} {j = 1} (omega arith)))
 
+-- Where the code arrives behind its tests.
+abbrev start : tie.After-struct-known6 → tie.Start
+start c = c .before .before .before .before .before .before .before .before .before
+
 -- The significand has no more bits than its place.
-place-few : (c : tie.After-struct-known6) → nextPlace (full (c .before .before .before .before .before .before .before .before .before)) (half (c .before .before .before .before .before .before .before .before .before)) (2 * c .before .before .before .before .before .before .before .before .before .args .far) ≤ 2 * 2 ^ c .before .before .before .before .before .before .before .before .before .args .t .fraction
+place-few : (c : tie.After-struct-known6) → let s = start c in nextPlace (full s) (half s) (2 * s .args .far) ≤ 2 * 2 ^ s .args .t .fraction
 place-few c =
-    let s = c .before .before .before .before .before .before .before .before .before in
+    let s = start c in
     place-most (s .args .t) (s .pre .2) (full s) (half s) (2 * s .args .far) (full-high s) (omega arith) (half-is s) (omega arith) (c .before .if3 .left)
 
 cast-short : tie.Need-cast-short
@@ -122,25 +126,26 @@ shl-result : tie.Need-shl-result
 shl-result c = search needs
 
 mul-result : tie.Need-mul-result
-mul-result c = omega (arith, most (c .before .before .before .before .before .before .before .before .before))
+mul-result c = omega (arith, most (start c))
 
 div-result : tie.Need-div-result
-div-result c = omega (arith, least (c .before .before .before .before .before .before .before .before .before))
+div-result c = omega (arith, least (start c))
 
 add-result : tie.Need-add-result
 add-result c =
-    let s = c .before .before .before .before .before .before .before .before .before in
+    let s = start c in
     omega (arith, place-few c, pow-mono {i = s .args .t .fraction} {j = 52} (s .pre .2 .few))
 
 add-result-2 : tie.Need-add-result-2
 add-result-2 c =
-    let s = c .before .before .before .before .before .before .before .before .before in
+    let s = start c in
     let t = s .args .t in
-    omega (arith, placed (s .pre .2) (field s) (omega arith), place-few c, mul-le-mul-right (2 ^ t .fraction) (c .before .before .before .if2 .left), s .pre .2 .fits)
+    let held = placed (s .pre .2) (field s) (omega arith) in
+    omega (arith, held, place-few c, mul-le-mul-right (2 ^ t .fraction) (c .before .before .before .if2 .left), s .pre .2 .fits)
 
 returns-4 : tie.Need-returns-4
 returns-4 c some w r g =
-    let s = c .before .before .before .before .before .before .before .before .before in
+    let s = start c in
     let t = s .args .t in
     both-ends t (s .pre .2) (full s) (half s) (2 * s .args .far) (full-high s) (omega arith) (half-is s) (omega arith) (c .before .if3 .left)
     g r (s .args .e - short s) (field s) (omega arith) (omega arith)

@@ -11,13 +11,16 @@ binary64-requires : tie.Need-binary64-requires
 binary64-requires c κs = search needs
 
 at-once-requires : tie.Need-at-once-requires
-at-once-requires c κs = let s = c .before .before .before .before in (s .pre .3 .bounds (s .pre .3 .tabled (c .before .if1 .taken)) .raised, c .binary64 .ensures .1)
+at-once-requires c κs =
+    let s = c .before .before .before .before in
+    (s .pre .3 .bounds (s .pre .3 .tabled (c .before .if1 .taken)) .raised, c .binary64 .ensures .1)
 
 returns : tie.Need-returns
 returns c =
     let s = c .before .before .before .before .before .before in
     let x = decimal (s .args .negative) (s .args .digits) (s .args .dropped) (s .args .more) (s .args .place) in
-    shown-at-once w64 spanned64 (s .args .text .now) x _ (c .before .before .binary64 .ensures .0) _ _ (s .pre .3 .tabled (c .before .before .before .if1 .taken)) (s .pre .3) _ (c .if2 .taken) (c .before .at-once .ensures)
+    shown-at-once w64 spanned64 (s .args .text .now) x _ (c .before .before .binary64 .ensures .0) _ _
+    (s .pre .3 .tabled (c .before .before .before .if1 .taken)) (s .pre .3) _ (c .if2 .taken) (c .before .at-once .ensures)
 
 binary64-requires-2 : tie.Need-binary64-requires-2
 binary64-requires-2 c κs = search needs

@@ -33,7 +33,9 @@ returns-3 : tie.Need-returns-3
 returns-3 c = subst (Scans (c .before .before .before .before .before .args .text .now)) (c .before .s .given .1) (c .before .before .before .scan .ensures)
 
 returns-4 : tie.Need-returns-4
-returns-4 c = (subst (Scans (c .before .before .before .before .before .before .args .text .now)) (c .before .before .s2 .given .1) (c .before .before .before .before .scan .ensures), c .scaled .ensures)
+returns-4 c =
+    let s = c .before .before .before .before .before .before in
+    (subst (Scans (s .args .text .now)) (c .before .before .s2 .given .1) (c .before .before .before .before .scan .ensures), c .scaled .ensures)
 
 pub measure-spec : {M : Type 1} → statement M
 measure-spec =
