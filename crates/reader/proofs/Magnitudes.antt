@@ -1,11 +1,13 @@
 -- What a scanned number reads as, by each of the ways of reading it. Assumes nothing.
+use mathlib.Core.Bool.{false}
 use mathlib.Core.List.{List}
 use mathlib.Core.Path.{_≡_, sym, ap, ap₂, subst, _∙_}
-use Prim.Native.Nat.{ℕ, _+_, _-_, _*_, _^_, _≤_, _<_}
+use Prim.Native.Nat.{ℕ, _+_, _-_, _*_, _^_, _<_}
 use native.Mathlib.Nat.{le-antisymm}
 use native.Mathlib.Omega.{arith}
 use lib.ListN.{drop}
-use Rattle.rules.specs.Width.{Width}
+use lib.Pow.{pow-add}
+use Rattle.rules.specs.Width.{Width, w64}
 use Rattle.rules.specs.Reading.{infinity, nearest}
 use Rattle.scan.specs.declared.Decimal.{Decimal}
 use Rattle.scan.specs.Kept.{Kept}
@@ -13,6 +15,8 @@ use Rattle.scan.specs.Mantissa.{mantissa, behindSign}
 use Rattle.scan.specs.Scans.{Says}
 use Rattle.closest.specs.declared.Target.{Target}
 use Rattle.closest.specs.Targets.{Targets}
+use Rattle.fast.specs.declared.Quick.the-variants as quick
+use Rattle.fast.specs.Quick.{Finds}
 use Rattle.bounds.specs.Around.{Within, AtOnce, Around}
 use Rattle.settle.specs.Settles.{Settles}
 use Rattle.reader.specs.Spanned.{Spanned}
@@ -62,3 +66,9 @@ module _ (w : Width) (spanned : Spanned w) (t : List ℕ) (x : Decimal) where
             let e = within s in
             let same = subst (λ (l : List ℕ). Settles T (mantissa 0 l) (x .place - x .dropped) least most r) behind settles in
             same w (spanned .readable) is (s .up) (s .down) (omega (arith, s .place, s .few)) (e .above) (e .below)
+
+-- The quick way, where no digit is left out.
+pub found-quickly : (t : List ℕ) (x : Decimal) (v : ℕ) → x .more ≡ false → Finds (x .digits) (x .place) (quick.Pattern v) → Reads w64 t x v
+found-quickly t x v all finds s =
+    finds (s .up + x .dropped) (s .down) (s .place)
+    ∙ ap (λ (n : ℕ). nearest w64 n (10 ^ s .down)) (rw (pow-add 10 (s .up) (x .dropped), s .kept .whole all) (omega arith))

@@ -1,6 +1,7 @@
 // Reading a text as the nearest pattern of binary32 or binary64.
 use bounds::Product;
 use closest::Target;
+use fast::Quick;
 use scan::Decimal;
 use scan::Scanned;
 ghost use mathlib.Core.Path.{_≡_};
@@ -156,8 +157,8 @@ fn magnitude32(
     )
 }
 
-// The same at 64 bits.
-fn magnitude64(
+// The pattern without a sign that a number reads as at 64 bits, by its product or by comparison.
+fn tabled64(
     text: &[u8],
     negative: bool,
     digits: u64,
@@ -186,6 +187,29 @@ fn magnitude64(
         p,
         closest::binary64(),
     )
+}
+
+// The pattern without a sign that a number reads as at 64 bits, the quick way where it serves.
+fn magnitude64(
+    text: &[u8],
+    negative: bool,
+    digits: u64,
+    dropped: u32,
+    more: bool,
+    place: u32,
+    p: Product,
+) -> u64
+    requires { ⌜ (0 < length (now text)) × (length (now text) ≤ 64) × Says (now text) (decimal negative digits dropped more place) ×
+        Scaled digits place (p .upper) (p .exponent) ⌝ }
+    ensures { λ r. ⌜ Reads w64 (now (text .entry)) (decimal negative digits dropped more place) r ⌝ }
+{
+    if !more {
+        let q = fast::quickly(digits, place);
+        if let Quick::Pattern(v) = q {
+            return v;
+        }
+    }
+    tabled64(text, negative, digits, dropped, more, place, p)
 }
 
 // A pattern of 32 bits with a sign.

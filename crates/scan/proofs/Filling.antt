@@ -1,14 +1,14 @@
 -- The last bytes of a text as one word, with the digit 0 in place of those before. Assumes nothing.
 use mathlib.Core.List.{List, [], _∷_, _++_}
-use mathlib.Core.Path.{_≡_, refl, sym, subst, ap, ap₂, _∙_}
+use mathlib.Core.Path.{_≡_, sym, subst, ap, ap₂, _∙_}
 use Prim.Native.Nat.{ℕ, zero, suc, _+_, _-_, _*_, _/_, _%_, _^_, _≤_, _<_}
 use native.Mathlib.Nat.{zero-add, suc-add, mod-eq-of-lt, lt-of-le-of-lt, div-mul-le-self}
 use native.Mathlib.Omega.{arith}
 use lib.Bits.{bitOr, or-shifted}
 use lib.Dec.{lit<}
-use lib.ListN.{length, getD, take, drop, replicate, length-replicate, length-append, length-drop}
+use lib.ListN.{length, take, drop, replicate, length-replicate, length-append, length-drop}
 use lib.Pow.{pow-add}
-use lib.Seq.{drop-drop, length-take-le, take-all}
+use lib.Seq.{drop-drop, take-all}
 use Rattle.laws.specs.Lanes.{Below, word}
 use Rattle.laws.proofs.Lanes.{above, beyond}
 use Rattle.rules.specs.Bytes.{byte0}
