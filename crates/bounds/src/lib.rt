@@ -1,7 +1,6 @@
-// The two patterns between which a decimal number reads, by the table of the powers of ten.
+// What a decimal number reads as by the table of the powers of ten: one pattern at once, or one of those between two.
 use closest::Target;
-ghost use mathlib.Core.Path.{_≡_};
-ghost use Prim.Native.Nat.{ℕ, _+_, _*_, _^_, _≤_, _<_};
+ghost use Prim.Native.Nat.{_+_, _*_, _^_, _≤_, _<_};
 ghost use Rattle.rules.specs.Width.{Width};
 ghost use Rattle.rules.specs.Reading.{nearest};
 ghost use Rattle.theorems.proofs.Readable.{Readable};
