@@ -2,10 +2,11 @@
 use mathlib.Core.List.{List, [], _∷_, _++_, map}
 use mathlib.Core.Path.{_≡_, refl, sym, ap, ap₂, _∙_}
 use Prim.Native.Nat.{ℕ, zero, suc, _+_, _-_, _*_, _/_, _%_, _^_, _≤_, _<_}
-use native.Mathlib.Nat.{zero-mul, suc-mul, mul-le-mul-right, mul-pos, mod-eq-of-lt, div-add-mod', div-one, div-eq-of-lt, div-div-eq-div-mul, lt-of-le-of-lt, lt-of-lt-of-le}
+use native.Mathlib.Nat.{zero-mul, suc-mul, mul-le-mul-right, mul-pos, mod-eq-of-lt, div-add-mod', div-one, div-eq-of-lt, div-div-eq-div-mul}
+use native.Mathlib.Nat.{lt-of-le-of-lt, lt-of-lt-of-le}
 use native.Mathlib.Omega.{arith}
 use lib.Arith.{digits-div, digits-mod}
-use lib.Bits.{bitAnd, and-block, and-le-l, and-mask, and-zero-r}
+use lib.Bits.{bitAnd, bitXor, xor-block, and-block, and-le-l, and-mask, and-zero-r}
 use lib.ListN.{length, getD, drop, replicate, length-map}
 use lib.Pow.{pow-pos, pow-add}
 use Rattle.laws.specs.Lanes.{Below, word, paired}
@@ -53,6 +54,14 @@ masked w m [] h small = refl
 masked w m (x ∷ xs) h small =
     and-block w (word w xs) (word w (replicate (length xs) m)) x m (h 0) small
     ∙ ap (λ (z : ℕ). z * 2 ^ w + bitAnd x m) (masked w m xs (λ i. h (suc i)) small)
+
+pub flipped : (w m : ℕ) (xs : List ℕ) → Below (2 ^ w) xs → m < 2 ^ w →
+    bitXor (word w xs) (word w (replicate (length xs) m)) ≡ word w (map (λ x. bitXor x m) xs)
+unfolding word
+flipped w m [] h small = refl
+flipped w m (x ∷ xs) h small =
+    xor-block w (word w xs) (word w (replicate (length xs) m)) x m (h 0) small
+    ∙ ap (λ (z : ℕ). z * 2 ^ w + bitXor x m) (flipped w m xs (λ i. h (suc i)) small)
 
 -- The same number added to every lane.
 pub added : (w m : ℕ) (xs : List ℕ) → word w xs + word w (replicate (length xs) m) ≡ word w (map (λ x. x + m) xs)

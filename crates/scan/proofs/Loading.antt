@@ -4,6 +4,7 @@ use mathlib.Core.Path.{_≡_, sym, subst, ap, _∙_}
 use Prim.Native.Nat.{ℕ, zero, suc, _+_, _-_, _*_, _^_, _≤_, _<_}
 use native.Mathlib.Nat.{add-zero, pow-succ'}
 use native.Mathlib.Omega.{arith}
+use lib.Bits.{bitXor}
 use lib.Dec.{lit<}
 use lib.ListN.{length, getD, take, drop, take-append-drop, length-drop}
 use lib.Seq.{drop-drop, take-add, length-take-le}
@@ -14,6 +15,7 @@ use Rattle.rules.specs.Reading.{extended}
 use Rattle.scan.specs.Passes.{Passes, none, more, Makes}
 use Rattle.scan.specs.Spells.{Spells}
 use Rattle.scan.proofs.Passing.{cons}
+use Rattle.scan.proofs.Spelling.{aboves}
 
 -- A part of a list is below what the list is below.
 pub drop-below : (n at : ℕ) (t : List ℕ) → Below n t → Below n (drop at t)
@@ -82,10 +84,11 @@ makes {k} {at} {r} {t} p =
     }
 
 -- Eight bytes of a text that spell a number.
-pub eight : {at v r : ℕ} {t : List ℕ} → at + 8 ≤ length t → Below 256 t → v ≡ word 8 (take 8 (drop at t)) → Spells v r →
-    (r ≤ 100000000) × (r < 100000000 → Makes 8 t at r)
+pub eight : {at v r : ℕ} {t : List ℕ} → at + 8 ≤ length t → Below 256 t → v ≡ word 8 (take 8 (drop at t)) →
+    Spells (bitXor v 0x3030_3030_3030_3030) r → (r ≤ 100000000) × (r < 100000000 → Makes 8 t at r)
 eight {at} {v} {r} {t} inside bytes e spells =
     let part = take 8 (drop at t) in
     let count : length part ≡ 8 = length-take-le 8 (drop at t) (omega (arith, length-drop at t)) in
-    let all = spells .spells part count (take-below 256 8 (drop at t) (lit< tt) (drop-below 256 at t bytes)) (sym e) in
+    let below : Below 256 part = take-below 256 8 (drop at t) (lit< tt) (drop-below 256 at t bytes) in
+    let all = spells .spells part count below (sym (aboves part count below) ∙ ap (λ (n : ℕ). bitXor n 0x3030_3030_3030_3030) (sym e)) in
     (all .0, λ less. makes (all .1 less))

@@ -3,42 +3,51 @@ use mathlib.Core.Bool.{true}
 use mathlib.Core.List.{List, [], _∷_, map}
 use mathlib.Core.Path.{_≡_, refl, sym, ap, subst, _∙_}
 use Prim.Native.Nat.{ℕ, zero, suc, _+_, _-_, _*_, _/_, _%_, _≤_, _<_}
-use native.Mathlib.Nat.{mod-eq-of-lt}
+use native.Mathlib.Nat.{mod-eq-of-lt, mod-lt}
 use native.Mathlib.Omega.{arith}
-use lib.Bits.{bitAnd, and-high, and-mask, and-le-r}
+use lib.Bits.{bitAnd, bitXor, and-high, and-mask, and-le-r, xor-block, xor-lt, xor-zero-r}
 use lib.Dec.{lit<, lit≤}
 use lib.ListN.{length, getD, replicate, drop, length-map}
+use lib.Pow.{split}
 use Rattle.laws.specs.Lanes.{Below, word, paired}
-use Rattle.laws.proofs.Lanes.{mapped, mapped-below, masked, added, tested, paired-below, pairs}
+use Rattle.laws.proofs.Tests.{le, _and_, every}
+use Rattle.laws.proofs.Lanes.{mapped, mapped-below, masked, flipped, added, tested, paired-below, pairs}
 use Rattle.rules.specs.Bytes.{byte0}
 use Rattle.rules.specs.Reading.{isDigit, extended}
 use Rattle.scan.specs.Passes.{Passes, none, more}
-use Rattle.scan.specs.Spells.{Joins, Spells}
+use Rattle.scan.specs.Spells.{above, Joins, Spells}
 use Rattle.scan.proofs.Passing.{in-range}
 
 -- The upper half of a byte.
 upper-half : (b : ℕ) → b < 256 → bitAnd b 0xF0 ≡ b / 16 * 16
 upper-half b byte = let small : b / 16 < 16 = omega arith in and-high b 4 4 ∙ ap (λ (q : ℕ). q * 16) (mod-eq-of-lt small)
 
--- What is tested of a byte: its upper half is that of a digit, and its lower half is below 10.
+-- What is tested of a byte.
 pub record Digit (b : ℕ) : Type 0 where
   pub digit : isDigit b ≡ true
-  pub value : bitAnd b 0x0F ≡ b - byte0
-  pub small : bitAnd b 0x0F < 10
+  pub value : bitAnd (above b) 0x0F ≡ b - byte0
+  pub small : bitAnd (above b) 0x0F < 10
 
-pub digit-byte : (b : ℕ) → b < 256 → bitAnd b 0xF0 ≡ 0x30 → bitAnd (bitAnd b 0x0F + 6) 0xF0 ≡ 0 → Digit b
+-- The two halves of a byte, apart from the digit 0.
+flipped-halves : (b : ℕ) → bitXor b 0x30 ≡ bitXor (b / 16) 3 * 16 + b % 16
+flipped-halves b =
+    ap (λ (x : ℕ). bitXor x 0x30) (sym (split b 4)) ∙ xor-block 4 (b / 16) 3 (b % 16) 0 (mod-lt b (lit< tt)) (lit< tt)
+    ∙ ap (λ (x : ℕ). bitXor (b / 16) 3 * 16 + x) (xor-zero-r (b % 16))
+
+-- Only 3 is as 3.
+same-half : (a : ℕ) → a < 16 → bitXor a 3 ≡ 0 → a ≡ 3
+same-half a small alike = omega (arith, every (λ x. le x (3 + bitXor x 3) and le 3 (x + bitXor x 3)) 16 tt a small)
+
+digit-byte : (b : ℕ) → b < 256 → bitAnd (above b) 0xF0 ≡ 0 → bitAnd (bitAnd (above b) 0x0F + 6) 0xF0 ≡ 0 → Digit b
 digit-byte b byte upper lower =
-    let low : bitAnd b 0x0F ≡ b % 16 = and-mask b 4 in
-    let six : bitAnd b 0x0F + 6 < 256 = omega (arith, and-le-r b 0x0F) in
-    let high : b / 16 ≡ 3 = omega (arith, sym (upper-half b byte) ∙ upper) in
-    let few : (bitAnd b 0x0F + 6) / 16 ≡ 0 = omega (arith, sym (upper-half (bitAnd b 0x0F + 6) six) ∙ lower) in
-    let least : 48 ≤ b = omega arith in
-    let most : b < 58 = omega arith in
-    record {
-      digit = in-range b least most;
-      value = omega arith;
-      small = omega arith;
-    }
+    let low : bitAnd (above b) 0x0F ≡ above b % 16 = and-mask (above b) 4 in
+    let six : bitAnd (above b) 0x0F + 6 < 256 = omega (arith, and-le-r (above b) 0x0F) in
+    let high : above b / 16 ≡ 0 = omega (arith, sym (upper-half (above b) (xor-lt 8 b 0x30 byte (lit< tt))) ∙ upper) in
+    let few : (bitAnd (above b) 0x0F + 6) / 16 ≡ 0 = omega (arith, sym (upper-half (bitAnd (above b) 0x0F + 6) six) ∙ lower) in
+    let half : bitXor (b / 16) 3 ≡ 0 = omega (arith, high, flipped-halves b) in
+    let three : b / 16 ≡ 3 = same-half (b / 16) (omega arith) half in
+    let rest : above b ≡ b % 16 = omega (arith, half, flipped-halves b) in
+    record { digit = in-range b (omega arith) (omega arith); value = omega arith; small = omega arith }
 
 -- A list of n, written out.
 abbrev listed : ℕ → List ℕ → List ℕ
@@ -96,33 +105,46 @@ lows : (xs : List ℕ) → length xs ≡ 8 → Below 256 xs → bitAnd (word 8 x
 unfolding word
 lows xs l bytes = ap (λ (n : ℕ). bitAnd (word 8 xs) (word 8 (replicate n 0x0F))) (sym l) ∙ masked 8 0x0F xs bytes (lit< tt)
 
--- Eight bytes that pass both tests are digits.
-digits : (xs : List ℕ) → length xs ≡ 8 → Below 256 xs → bitAnd (word 8 xs) 0xF0F0_F0F0_F0F0_F0F0 ≡ 0x3030_3030_3030_3030 →
-    bitAnd (bitAnd (word 8 xs) 0x0F0F_0F0F_0F0F_0F0F + 0x0606_0606_0606_0606) 0xF0F0_F0F0_F0F0_F0F0 ≡ 0 → (i : ℕ) → i < 8 → Digit (getD xs i 0)
+-- A mask that leaves nothing of eight bytes leaves nothing of each.
+nothing : (xs : List ℕ) → length xs ≡ 8 → Below 256 xs → bitAnd (word 8 xs) 0xF0F0_F0F0_F0F0_F0F0 ≡ 0 → (i : ℕ) → i < 8 → bitAnd (getD xs i 0) 0xF0 ≡ 0
 unfolding word
+nothing xs l bytes e i less =
+    tested 8 0xF0 0 xs bytes (lit< tt) (lit< tt)
+    (subst (λ (n : ℕ). bitAnd (word 8 xs) (word 8 (replicate n 0xF0)) ≡ word 8 (replicate n 0)) (sym l) e) i (omega arith)
+
+sixes : (xs : List ℕ) → length xs ≡ 8 → word 8 xs + 0x0606_0606_0606_0606 ≡ word 8 (map (λ x. x + 6) xs)
+unfolding word
+sixes xs l = ap (λ (n : ℕ). word 8 xs + word 8 (replicate n 6)) (sym l) ∙ added 8 6 xs
+
+pub aboves-below : (xs : List ℕ) → Below 256 xs → Below 256 (map above xs)
+aboves-below xs bytes = mapped-below above 256 xs (lit< tt) (λ i less. xor-lt 8 (getD xs i 0) 0x30 (bytes i) (lit< tt))
+
+-- Eight bytes that pass both tests are digits.
+digits : (xs : List ℕ) → length xs ≡ 8 → Below 256 xs → bitAnd (word 8 (map above xs)) 0xF0F0_F0F0_F0F0_F0F0 ≡ 0 →
+    bitAnd (bitAnd (word 8 (map above xs)) 0x0F0F_0F0F_0F0F_0F0F + 0x0606_0606_0606_0606) 0xF0F0_F0F0_F0F0_F0F0 ≡ 0 →
+    (i : ℕ) → i < 8 → Digit (getD xs i 0)
 digits xs l bytes upper lower i less =
-    let ys = map low xs in
+    let vs = map above xs in
+    let ys = map low vs in
     let zs = map (λ x. x + 6) ys in
-    let count : length ys ≡ 8 = length-map xs low ∙ l in
-    let count-six : length zs ≡ 8 = length-map ys (λ x. x + 6) ∙ count in
+    let count : length vs ≡ 8 = length-map xs above ∙ l in
+    let count-low : length ys ≡ 8 = length-map vs low ∙ count in
+    let count-six : length zs ≡ 8 = length-map ys (λ x. x + 6) ∙ count-low in
     let half : (j : ℕ) → j < length ys → getD ys j 0 + 6 < 256 =
-    λ j k. omega (arith, mapped low xs j (omega arith), and-le-r (getD xs j 0) 0x0F) in
-    let six : bitAnd (word 8 xs) 0x0F0F_0F0F_0F0F_0F0F + 0x0606_0606_0606_0606 ≡ word 8 zs =
-    ap (λ (n : ℕ). n + 0x0606_0606_0606_0606) (lows xs l bytes)
-    ∙ ap (λ (n : ℕ). word 8 ys + word 8 (replicate n 6)) (sym count)
-    ∙ added 8 6 ys in
-    let first = tested 8 0xF0 0x30 xs bytes (lit< tt) (lit< tt)
-    (subst (λ (n : ℕ). bitAnd (word 8 xs) (word 8 (replicate n 0xF0)) ≡ word 8 (replicate n 0x30)) (sym l) upper) i (omega arith) in
-    let second = tested 8 0xF0 0 zs (mapped-below (λ x. x + 6) 256 ys (lit< tt) half) (lit< tt) (lit< tt)
-    (subst (λ (n : ℕ). bitAnd (word 8 zs) (word 8 (replicate n 0xF0)) ≡ word 8 (replicate n 0)) (sym count-six)
-    (ap (λ (n : ℕ). bitAnd n 0xF0F0_F0F0_F0F0_F0F0) (sym six) ∙ lower)) i (omega arith) in
-    let here : getD zs i 0 ≡ low (getD xs i 0) + 6 =
-    mapped (λ x. x + 6) ys i (omega arith) ∙ ap (λ (n : ℕ). n + 6) (mapped low xs i (omega arith)) in
-    digit-byte (getD xs i 0) (bytes i) first (ap (λ (n : ℕ). bitAnd n 0xF0) (sym here) ∙ second)
+    λ j k. omega (arith, mapped low vs j (omega arith), and-le-r (getD vs j 0) 0x0F) in
+    let six : bitAnd (word 8 vs) 0x0F0F_0F0F_0F0F_0F0F + 0x0606_0606_0606_0606 ≡ word 8 zs =
+    ap (λ (n : ℕ). n + 0x0606_0606_0606_0606) (lows vs count (aboves-below xs bytes)) ∙ sixes ys count-low in
+    let first = nothing vs count (aboves-below xs bytes) upper i less in
+    let second = nothing zs count-six (mapped-below (λ x. x + 6) 256 ys (lit< tt) half)
+    (ap (λ (n : ℕ). bitAnd n 0xF0F0_F0F0_F0F0_F0F0) (sym six) ∙ lower) i less in
+    let here : getD vs i 0 ≡ above (getD xs i 0) = mapped above xs i (omega arith) in
+    let there : getD zs i 0 ≡ low (above (getD xs i 0)) + 6 =
+    mapped (λ x. x + 6) ys i (omega arith) ∙ ap (λ (n : ℕ). n + 6) (mapped low vs i (omega arith) ∙ ap low here) in
+    digit-byte (getD xs i 0) (bytes i) (ap (λ (n : ℕ). bitAnd n 0xF0) (sym here) ∙ first) (ap (λ (n : ℕ). bitAnd n 0xF0) (sym there) ∙ second)
 
 -- So they make the number that their lower halves make.
 abbrev Spelled : ℕ → List ℕ → Type 0
-Spelled r xs = ((i : ℕ) → i < 8 → Digit (getD xs i 0)) → Joins (word 8 (map low xs)) r → (r ≤ 100000000) × Passes 0 xs 8 r []
+Spelled r xs = ((i : ℕ) → i < 8 → Digit (getD xs i 0)) → Joins (word 8 (map low (map above xs))) r → (r ≤ 100000000) × Passes 0 xs 8 r []
 
 by-digits : (r a b c d e f g h : ℕ) → Spelled r (a ∷ b ∷ c ∷ d ∷ e ∷ f ∷ g ∷ h ∷ [])
 unfolding word paired extended
@@ -136,7 +158,9 @@ by-digits r a b c d e f g h digit lanes =
     let D5 = digit 5 (lit< tt) in
     let D6 = digit 6 (lit< tt) in
     let D7 = digit 7 (lit< tt) in
-    let made = lanes .joins (map low xs) refl (mapped-below low 10 xs (lit< tt) (λ i less. digit i less .small)) refl in
+    let below : (i : ℕ) → i < 8 → low (getD (map above xs) i 0) < 10 =
+    λ i less. rw (mapped above xs i less) (digit i less .small) in
+    let made = lanes .joins (map low (map above xs)) refl (mapped-below low 10 (map above xs) (lit< tt) below) refl in
     let few : r ≤ 100000000 = omega (arith, made, D0 .small, D1 .small, D2 .small, D3 .small, D4 .small, D5 .small, D6 .small, D7 .small) in
     let is : extended (extended (extended (extended (extended (extended (extended (extended 0 a) b) c) d) e) f) g) h ≡ r =
     omega (arith, made, D0 .value, D1 .value, D2 .value, D3 .value, D4 .value, D5 .value, D6 .value, D7 .value) in (
@@ -145,16 +169,22 @@ by-digits r a b c d e f g h digit lanes =
           (more (D0 .digit) (more (D1 .digit) (more (D2 .digit) (more (D3 .digit) (more (D4 .digit) (more (D5 .digit) (more (D6 .digit) (more (D7 .digit) none)))))))),
     )
 
-pub spelled : {v r : ℕ} → bitAnd v 0xF0F0_F0F0_F0F0_F0F0 ≡ 0x3030_3030_3030_3030 →
+pub spelled : {v r : ℕ} → bitAnd v 0xF0F0_F0F0_F0F0_F0F0 ≡ 0 →
     bitAnd (bitAnd v 0x0F0F_0F0F_0F0F_0F0F + 0x0606_0606_0606_0606) 0xF0F0_F0F0_F0F0_F0F0 ≡ 0 → Joins (bitAnd v 0x0F0F_0F0F_0F0F_0F0F) r → Spells v r
 spelled {v} {r} upper lower joins =
     record {
       spells = λ xs l bytes e.
           let digit = digits xs l bytes (rw e upper) (rw e lower) in
-          let lanes : Joins (word 8 (map low xs)) r = rw (← lows xs l bytes, e) joins in
+          let lanes : Joins (word 8 (map low (map above xs))) r =
+          rw (← lows (map above xs) (length-map xs above ∙ l) (aboves-below xs bytes), e) joins in
           let all = subst (Spelled r) (sym (spread 8 xs l)) (by-digits r _ _ _ _ _ _ _ _) digit lanes in
           (all .0, λ less. all .1);
     }
+
+-- Eight bytes with the digit 0 taken away.
+pub aboves : (xs : List ℕ) → length xs ≡ 8 → Below 256 xs → bitXor (word 8 xs) 0x3030_3030_3030_3030 ≡ word 8 (map above xs)
+unfolding word
+aboves xs l bytes = ap (λ (n : ℕ). bitXor (word 8 xs) (word 8 (replicate n 0x30))) (sym l) ∙ flipped 8 0x30 xs bytes (lit< tt)
 
 -- A number that stands for none spells nothing.
 pub unspelled : (v : ℕ) → Spells v 100000000

@@ -7,7 +7,7 @@ ghost use Rattle.laws.specs.Lanes.{word};
 ghost use Rattle.rules.specs.Bytes.{byte0};
 ghost use Rattle.rules.specs.Reading.{isDigit};
 ghost use Rattle.scan.specs.Passes.{Makes};
-ghost use Rattle.scan.specs.Spells.{Joins, Spells, Fills};
+ghost use Rattle.scan.specs.Spells.{Joins, Spells};
 ghost use Rattle.scan.specs.Goes.{Keeps, Goes, Reaches};
 
 // What is kept of digits.
@@ -116,11 +116,11 @@ fn joined(n: u64) -> u64
     (fours * 10000 + (fours >> 32)) & 0xFFFF_FFFF
 }
 
-// The number that the eight bytes of a word make if all are digits, else 100,000,000.
+// The number that eight digits make, each in a byte of a word by its value and the first the lowest; 100,000,000 if one is above 9.
 fn spelled(v: u64) -> u64
     ensures { λ r. ⌜ Spells v r ⌝ }
 {
-    if v & 0xF0F0_F0F0_F0F0_F0F0 != 0x3030_3030_3030_3030 {
+    if v & 0xF0F0_F0F0_F0F0_F0F0 != 0 {
         return 100000000;
     }
     let n = v & 0x0F0F_0F0F_0F0F_0F0F;
@@ -135,25 +135,17 @@ fn eight(s: &[u8], at: usize) -> u64
     requires { ⌜ at + 8 ≤ length (now s) ⌝ }
     ensures { λ r. ⌜ (r ≤ 100000000) × (r < 100000000 → Makes 8 (now (s .entry)) at r) ⌝ }
 {
-    spelled(word_at(s, at))
+    spelled(word_at(s, at) ^ 0x3030_3030_3030_3030)
 }
 
-// The last n bytes of a word, and the digit 0 in place of those before.
-fn filled(v: u64, n: usize) -> u64
-    requires { ⌜ (0 < n) × (n ≤ 8) ⌝ }
-    ensures { λ r. ⌜ Fills n v r ⌝ }
-{
-    let skip = 64 - 8 * n;
-    (v >> skip << skip) | (0x0030_3030_3030_3030 >> (56 - skip))
-}
-
-// The number that the last n bytes of a text make if all are digits, else 100,000,000.
+// The number that the last n bytes of a text make if all are digits, else 100,000,000: those before count as 0.
 fn last(s: &[u8], n: usize) -> u64
     requires { ⌜ (8 ≤ length (now s)) × (0 < n) × (n ≤ 8) ⌝ }
     ensures { λ r. ⌜ (r ≤ 100000000) × (r < 100000000 → Makes n (now (s .entry)) (length (now (s .entry)) - n) r) ⌝ }
 {
-    let v = word_at(s, s.len() - 8);
-    spelled(filled(v, n))
+    let v = word_at(s, s.len() - 8) ^ 0x3030_3030_3030_3030;
+    let skip = 64 - 8 * n;
+    spelled(v >> skip << skip)
 }
 
 // 10^n.
