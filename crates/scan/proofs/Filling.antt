@@ -6,7 +6,7 @@ use native.Mathlib.Nat.{zero-add, suc-add, suc-mul, mod-eq-of-lt, lt-of-le-of-lt
 use native.Mathlib.Omega.{arith}
 use lib.Bits.{bitXor}
 use lib.Dec.{lit<}
-use lib.ListN.{length, take, drop, replicate, length-replicate, length-append, length-drop, length-map}
+use lib.ListN.{length, take, drop, replicate, length-replicate, length-append, length-drop}
 use lib.Pow.{pow-add}
 use lib.Seq.{drop-drop, take-all}
 use Rattle.laws.specs.Lanes.{Below, word}

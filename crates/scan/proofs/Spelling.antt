@@ -142,6 +142,15 @@ digits xs l bytes upper lower i less =
     mapped (λ x. x + 6) ys i (omega arith) ∙ ap (λ (n : ℕ). n + 6) (mapped low vs i (omega arith) ∙ ap low here) in
     digit-byte (getD xs i 0) (bytes i) (ap (λ (n : ℕ). bitAnd n 0xF0) (sym here) ∙ first) (ap (λ (n : ℕ). bitAnd n 0xF0) (sym there) ∙ second)
 
+-- The number a with the digits of a text behind it, where it has no others.
+abbrev number : ℕ → List ℕ → ℕ
+number a [] = a
+number a (x ∷ xs) = number (extended a x) xs
+
+passed : (xs : List ℕ) (a : ℕ) → ((i : ℕ) → i < length xs → isDigit (getD xs i 0) ≡ true) → Passes a xs (length xs) (number a xs) []
+passed [] a digit = none
+passed (x ∷ xs) a digit = more (digit 0 (omega arith)) (passed xs (extended a x) (λ i less. digit (suc i) (omega arith)))
+
 -- So they make the number that their lower halves make.
 abbrev Spelled : ℕ → List ℕ → Type 0
 Spelled r xs = ((i : ℕ) → i < 8 → Digit (getD xs i 0)) → Joins (word 8 (map low (map above xs))) r → (r ≤ 100000000) × Passes 0 xs 8 r []
@@ -162,12 +171,8 @@ by-digits r a b c d e f g h digit lanes =
     λ i less. rw (mapped above xs i less) (digit i less .small) in
     let made = lanes .joins (map low (map above xs)) refl (mapped-below low 10 (map above xs) (lit< tt) below) refl in
     let few : r ≤ 100000000 = omega (arith, made, D0 .small, D1 .small, D2 .small, D3 .small, D4 .small, D5 .small, D6 .small, D7 .small) in
-    let is : extended (extended (extended (extended (extended (extended (extended (extended 0 a) b) c) d) e) f) g) h ≡ r =
-    omega (arith, made, D0 .value, D1 .value, D2 .value, D3 .value, D4 .value, D5 .value, D6 .value, D7 .value) in (
-      few,
-      rw (← is)
-          (more (D0 .digit) (more (D1 .digit) (more (D2 .digit) (more (D3 .digit) (more (D4 .digit) (more (D5 .digit) (more (D6 .digit) (more (D7 .digit) none)))))))),
-    )
+    let is : number 0 xs ≡ r = omega (arith, made, D0 .value, D1 .value, D2 .value, D3 .value, D4 .value, D5 .value, D6 .value, D7 .value) in
+    (few, rw (← is) (passed xs 0 (λ i less. digit i less .digit)))
 
 pub spelled : {v r : ℕ} → bitAnd v 0xF0F0_F0F0_F0F0_F0F0 ≡ 0 →
     bitAnd (bitAnd v 0x0F0F_0F0F_0F0F_0F0F + 0x0606_0606_0606_0606) 0xF0F0_F0F0_F0F0_F0F0 ≡ 0 → Joins (bitAnd v 0x0F0F_0F0F_0F0F_0F0F) r → Spells v r
