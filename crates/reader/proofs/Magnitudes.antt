@@ -21,7 +21,7 @@ use Rattle.bounds.specs.Around.{Within, AtOnce, Around}
 use Rattle.settle.specs.Settles.{Settles}
 use Rattle.reader.specs.Spanned.{Spanned}
 use Rattle.reader.specs.Reads.{Reads}
-use Rattle.reader.specs.Measures.{Tabled, Scaled}
+use Rattle.reader.specs.Scaled.{Tabled, Scaled}
 use Rattle.reader.proofs.Extremes.{reads-zero, reads-infinity, zero-reads}
 
 module _ (w : Width) (spanned : Spanned w) (t : List ℕ) (x : Decimal) where

@@ -1,4 +1,4 @@
 pub mod Told
 pub mod Spanned
 pub mod Reads
-pub mod Measures
+pub mod Scaled

@@ -2,7 +2,6 @@
 use bounds::Product;
 use closest::Target;
 use fast::Quick;
-use scan::Decimal;
 use scan::Scanned;
 ghost use mathlib.Core.Path.{_≡_};
 ghost use Prim.Native.Nat.{_^_, _≤_, _<_};
@@ -14,7 +13,7 @@ ghost use Rattle.scan.specs.Scans.{Says};
 ghost use Rattle.closest.specs.Targets.{Targets, Sized};
 ghost use Rattle.reader.specs.Told.{told32, told64};
 ghost use Rattle.reader.specs.Reads.{decimal, Behind, Reads};
-ghost use Rattle.reader.specs.Measures.{Scaled, Measures};
+ghost use Rattle.reader.specs.Scaled.{Scaled};
 ghost use Rattle.reader.specs.Spanned.{Spanned};
 
 // How reading as binary32 ended: with a pattern, or refused by the text's length or its form.
@@ -29,14 +28,6 @@ pub enum Outcome64 {
     Pattern(u64),
     WrongLength,
     WrongForm,
-}
-
-// What a text says, a number with the product that bounds it.
-enum Measured {
-    Refused,
-    NotANumber,
-    Infinite(bool),
-    Number(Decimal, Product),
 }
 
 // A product that bounds nothing.
@@ -79,20 +70,6 @@ fn scaled(digits: u64, place: u32) -> Product
     bounds::multiplied(digits, (place - FIRST) as usize)
 }
 
-// What a text says, a number with its product. Both widths read so far alike.
-fn measure(text: &[u8]) -> Measured
-    requires { ⌜ (0 < length (now text)) × (length (now text) ≤ 64) ⌝ }
-    ensures { λ r. ⌜ Measures (now (text .entry)) r ⌝ }
-{
-    let s = scan::scan(text);
-    match s {
-        Scanned::Refused => Measured::Refused,
-        Scanned::NotANumber => Measured::NotANumber,
-        Scanned::Infinite(negative) => Measured::Infinite(negative),
-        Scanned::Number(x) => Measured::Number(x, scaled(x.digits, x.place)),
-    }
-}
-
 // The pattern without a sign that a number reads as at a width, by both ends of its product, and where those differ by exact comparison.
 fn compared(
     text: &[u8],
@@ -125,8 +102,8 @@ fn compared(
     settle::settle(text, from, place - dropped, ends.least, ends.most, t)
 }
 
-// The same at 32 bits, at once where the product shows it.
-fn magnitude32(
+// The pattern without a sign that a number reads as at 32 bits, by its product or by comparison.
+fn tabled32(
     text: &[u8],
     negative: bool,
     digits: u64,
@@ -189,6 +166,22 @@ fn tabled64(
     )
 }
 
+// The pattern without a sign that a number reads as at 32 bits.
+fn magnitude32(
+    text: &[u8],
+    negative: bool,
+    digits: u64,
+    dropped: u32,
+    more: bool,
+    place: u32,
+) -> u64
+    requires { ⌜ (0 < length (now text)) × (length (now text) ≤ 64) × Says (now text) (decimal negative digits dropped more place) ⌝ }
+    ensures { λ r. ⌜ Reads w32 (now (text .entry)) (decimal negative digits dropped more place) r ⌝ }
+{
+    let p = scaled(digits, place);
+    tabled32(text, negative, digits, dropped, more, place, p)
+}
+
 // The pattern without a sign that a number reads as at 64 bits, the quick way where it serves.
 fn magnitude64(
     text: &[u8],
@@ -197,10 +190,8 @@ fn magnitude64(
     dropped: u32,
     more: bool,
     place: u32,
-    p: Product,
 ) -> u64
-    requires { ⌜ (0 < length (now text)) × (length (now text) ≤ 64) × Says (now text) (decimal negative digits dropped more place) ×
-        Scaled digits place (p .upper) (p .exponent) ⌝ }
+    requires { ⌜ (0 < length (now text)) × (length (now text) ≤ 64) × Says (now text) (decimal negative digits dropped more place) ⌝ }
     ensures { λ r. ⌜ Reads w64 (now (text .entry)) (decimal negative digits dropped more place) r ⌝ }
 {
     if !more {
@@ -209,6 +200,7 @@ fn magnitude64(
             return v;
         }
     }
+    let p = scaled(digits, place);
     tabled64(text, negative, digits, dropped, more, place, p)
 }
 
@@ -244,14 +236,14 @@ pub fn read32(text: &[u8]) -> Outcome32
     if LONGEST < text.len() {
         return Outcome32::WrongLength;
     }
-    let s = measure(text);
+    let s = scan::scan(text);
     match s {
-        Measured::Refused => Outcome32::WrongForm,
-        Measured::NotANumber => Outcome32::Pattern(0x7fc00000),
-        Measured::Infinite(negative) => Outcome32::Pattern(signed32(negative, 0x7f800000)),
-        Measured::Number(x, p) => Outcome32::Pattern(signed32(
+        Scanned::Refused => Outcome32::WrongForm,
+        Scanned::NotANumber => Outcome32::Pattern(0x7fc00000),
+        Scanned::Infinite(negative) => Outcome32::Pattern(signed32(negative, 0x7f800000)),
+        Scanned::Number(x) => Outcome32::Pattern(signed32(
             x.negative,
-            magnitude32(text, x.negative, x.digits, x.dropped, x.more, x.place, p),
+            magnitude32(text, x.negative, x.digits, x.dropped, x.more, x.place),
         )),
     }
 }
@@ -266,14 +258,14 @@ pub fn read64(text: &[u8]) -> Outcome64
     if LONGEST < text.len() {
         return Outcome64::WrongLength;
     }
-    let s = measure(text);
+    let s = scan::scan(text);
     match s {
-        Measured::Refused => Outcome64::WrongForm,
-        Measured::NotANumber => Outcome64::Pattern(0x7ff8000000000000),
-        Measured::Infinite(negative) => Outcome64::Pattern(signed64(negative, 0x7ff0000000000000)),
-        Measured::Number(x, p) => Outcome64::Pattern(signed64(
+        Scanned::Refused => Outcome64::WrongForm,
+        Scanned::NotANumber => Outcome64::Pattern(0x7ff8000000000000),
+        Scanned::Infinite(negative) => Outcome64::Pattern(signed64(negative, 0x7ff0000000000000)),
+        Scanned::Number(x) => Outcome64::Pattern(signed64(
             x.negative,
-            magnitude64(text, x.negative, x.digits, x.dropped, x.more, x.place, p),
+            magnitude64(text, x.negative, x.digits, x.dropped, x.more, x.place),
         )),
     }
 }

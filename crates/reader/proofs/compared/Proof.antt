@@ -3,7 +3,7 @@ use native.Mathlib.Omega.{arith}
 use borrow.Author.Needs.{needs}
 use Rattle.scan.specs.declared.Decimal.{Decimal}
 use Rattle.reader.specs.Reads.{decimal}
-use Rattle.reader.specs.Measures.{Tabled}
+use Rattle.reader.specs.Scaled.{Tabled}
 use Rattle.reader.proofs.Magnitudes.{without-digits, too-small, too-large, by-table, by-comparison}
 use Rattle.reader.proofs.compared.Statement.{statement}
 use Rattle.reader.proofs.compared.Tie as tie

@@ -28,6 +28,9 @@ returns c =
 enum-told : tie.Need-enum-told
 enum-told c = search needs
 
+scaled-requires : tie.Need-scaled-requires
+scaled-requires c κs = search needs
+
 tabled64-requires : tie.Need-tabled64-requires
 tabled64-requires c κs = search needs
 
@@ -35,4 +38,4 @@ returns-2 : tie.Need-returns-2
 returns-2 c = c .tabled64 .ensures
 
 pub magnitude64-spec : {M : Type 1} → statement M
-magnitude64-spec = tie.close (tie.spec quickly-requires enum-known-q returns enum-told tabled64-requires returns-2)
+magnitude64-spec = tie.close (tie.spec quickly-requires enum-known-q returns enum-told scaled-requires tabled64-requires returns-2)

@@ -1,4 +1,4 @@
--- `reader::read32` meets its contract: the text's length, and each case of what it says. Assumes nothing.
+-- `reader::read32` meets its contract: the text's length, and each case of its scan. Assumes nothing.
 use mathlib.Core.Path.{refl, sym, subst}
 use native.Mathlib.Omega.{arith}
 use borrow.Author.Needs.{needs}
@@ -7,7 +7,7 @@ use Rattle.rules.specs.Pattern.{allOnes}
 use Rattle.rules.specs.Reading.{infinity}
 use Rattle.rules.specs.Reader.{quietNaN}
 use Rattle.theorems.proofs.ReadLength.{empty-refused, long-refused}
-use Rattle.reader.specs.Measures.{Measures}
+use Rattle.scan.specs.Scans.{Scans}
 use Rattle.reader.proofs.Answers.{nothing, a-nan, an-infinity, a-number, no-further}
 use Rattle.reader.proofs.read32.Statement.{statement}
 use Rattle.reader.proofs.read32.Tie as tie
@@ -18,8 +18,8 @@ returns c = let s = c .before .before in sym (empty-refused w32 (s .args .text .
 returns-2 : tie.Need-returns-2
 returns-2 c = let s = c .before .before .before in sym (long-refused w32 (s .args .text .now) (omega (arith, c .if2 .taken)))
 
-measure-requires : tie.Need-measure-requires
-measure-requires c κs = search needs
+scan-requires : tie.Need-scan-requires
+scan-requires c κs = search needs
 
 enum-told : tie.Need-enum-told
 enum-told c = search needs
@@ -39,50 +39,48 @@ enum-known-s-2 c = search needs
 magnitude32-requires : tie.Need-magnitude32-requires
 magnitude32-requires c κs =
     let s = c .before .before .before .before .before .before .before in
-    let measured = c .before .before .before in
-    let says = subst (Measures (s .args .text .now)) (c .before .s2 .given .1) (measured .measure .ensures) in (
-      omega (arith, measured .before .before .if1 .left),
-      omega (arith, measured .before .if2 .left),
-      says .0,
-      says .1,
+    let scan = c .before .before .before in (
+      omega (arith, scan .before .before .if1 .left),
+      omega (arith, scan .before .if2 .left),
+      subst (Scans (s .args .text .now)) (c .before .s2 .given .1) (scan .scan .ensures),
     )
 
 signed32-requires-2 : tie.Need-signed32-requires-2
 unfolding w32 infinity allOnes
 signed32-requires-2 c κs =
     let s = c .before .before .before .before .before .before .before .before in
-    let says = subst (Measures (s .args .text .now)) (c .before .before .s2 .given .1) (c .before .before .before .before .measure .ensures) in
-    omega (arith, no-further w32 (s .args .text .now) _ (c .magnitude32 .result) 0x7f800000 (says .0) (c .magnitude32 .ensures) refl)
+    let says = subst (Scans (s .args .text .now)) (c .before .before .s2 .given .1) (c .before .before .before .before .scan .ensures) in
+    omega (arith, no-further w32 (s .args .text .now) _ (c .magnitude32 .result) 0x7f800000 says (c .magnitude32 .ensures) refl)
 
 returns-3 : tie.Need-returns-3
 returns-3 c =
     let s = c .before .before .before .before .before .before in
-    let measured = c .before .before in
-    nothing w32 (s .args .text .now) (omega (arith, measured .before .before .if1 .left)) (omega (arith, measured .before .if2 .left))
-    (subst (Measures (s .args .text .now)) (c .enum-told .given .1) (measured .measure .ensures))
+    let scan = c .before .before in
+    nothing w32 (s .args .text .now) (omega (arith, scan .before .before .if1 .left)) (omega (arith, scan .before .if2 .left))
+    (subst (Scans (s .args .text .now)) (c .enum-told .given .1) (scan .scan .ensures))
 
 returns-4 : tie.Need-returns-4
 unfolding w32 quietNaN infinity allOnes
 returns-4 c =
     let s = c .before .before .before .before .before .before in
-    let measured = c .before .before in
-    a-nan w32 (s .args .text .now) (omega (arith, measured .before .before .if1 .left)) (omega (arith, measured .before .if2 .left))
-    (subst (Measures (s .args .text .now)) (c .enum-told2 .given .1) (measured .measure .ensures)) 0x7fc00000 refl
+    let scan = c .before .before in
+    a-nan w32 (s .args .text .now) (omega (arith, scan .before .before .if1 .left)) (omega (arith, scan .before .if2 .left))
+    (subst (Scans (s .args .text .now)) (c .enum-told2 .given .1) (scan .scan .ensures)) 0x7fc00000 refl
 
 returns-5 : tie.Need-returns-5
 unfolding w32 infinity allOnes
 returns-5 c =
     let s = c .before .before .before .before .before .before .before .before in
-    let measured = c .before .before .before .before in
-    an-infinity w32 (s .args .text .now) (omega (arith, measured .before .before .if1 .left)) (omega (arith, measured .before .if2 .left)) _
-    (subst (Measures (s .args .text .now)) (c .before .before .s .given .1) (measured .measure .ensures)) _ 0x7f800000 refl (c .signed32 .ensures)
+    let scan = c .before .before .before .before in
+    an-infinity w32 (s .args .text .now) (omega (arith, scan .before .before .if1 .left)) (omega (arith, scan .before .if2 .left)) _
+    (subst (Scans (s .args .text .now)) (c .before .before .s .given .1) (scan .scan .ensures)) _ 0x7f800000 refl (c .signed32 .ensures)
 
 returns-6 : tie.Need-returns-6
 returns-6 c =
     let s = c .before .before .before .before .before .before .before .before .before in
-    let measured = c .before .before .before .before .before in
-    a-number w32 (s .args .text .now) (omega (arith, measured .before .before .if1 .left)) (omega (arith, measured .before .if2 .left)) _
-    (subst (Measures (s .args .text .now)) (c .before .before .before .s2 .given .1) (measured .measure .ensures) .0) _ (c .before .magnitude32 .result)
+    let scan = c .before .before .before .before .before in
+    a-number w32 (s .args .text .now) (omega (arith, scan .before .before .if1 .left)) (omega (arith, scan .before .if2 .left)) _
+    (subst (Scans (s .args .text .now)) (c .before .before .before .s2 .given .1) (scan .scan .ensures)) _ (c .before .magnitude32 .result)
     (c .before .magnitude32 .ensures) (c .signed322 .ensures)
 
 pub read32-spec : {M : Type 1} → statement M
@@ -91,7 +89,7 @@ read32-spec =
     (tie.spec
     returns
     returns-2
-    measure-requires
+    scan-requires
     enum-told
     enum-told-2
     enum-known-s

@@ -1,4 +1,4 @@
--- `reader::read64` meets its contract: the text's length, and each case of what it says. Assumes nothing.
+-- `reader::read64` meets its contract: the text's length, and each case of its scan. Assumes nothing.
 use mathlib.Core.Path.{refl, sym, subst}
 use native.Mathlib.Omega.{arith}
 use borrow.Author.Needs.{needs}
@@ -7,7 +7,7 @@ use Rattle.rules.specs.Pattern.{allOnes}
 use Rattle.rules.specs.Reading.{infinity}
 use Rattle.rules.specs.Reader.{quietNaN}
 use Rattle.theorems.proofs.ReadLength.{empty-refused, long-refused}
-use Rattle.reader.specs.Measures.{Measures}
+use Rattle.scan.specs.Scans.{Scans}
 use Rattle.reader.proofs.Answers.{nothing, a-nan, an-infinity, a-number, no-further}
 use Rattle.reader.proofs.read64.Statement.{statement}
 use Rattle.reader.proofs.read64.Tie as tie
@@ -18,8 +18,8 @@ returns c = let s = c .before .before in sym (empty-refused w64 (s .args .text .
 returns-2 : tie.Need-returns-2
 returns-2 c = let s = c .before .before .before in sym (long-refused w64 (s .args .text .now) (omega (arith, c .if2 .taken)))
 
-measure-requires : tie.Need-measure-requires
-measure-requires c κs = search needs
+scan-requires : tie.Need-scan-requires
+scan-requires c κs = search needs
 
 enum-told : tie.Need-enum-told
 enum-told c = search needs
@@ -39,50 +39,48 @@ enum-known-s-2 c = search needs
 magnitude64-requires : tie.Need-magnitude64-requires
 magnitude64-requires c κs =
     let s = c .before .before .before .before .before .before .before in
-    let measured = c .before .before .before in
-    let says = subst (Measures (s .args .text .now)) (c .before .s2 .given .1) (measured .measure .ensures) in (
-      omega (arith, measured .before .before .if1 .left),
-      omega (arith, measured .before .if2 .left),
-      says .0,
-      says .1,
+    let scan = c .before .before .before in (
+      omega (arith, scan .before .before .if1 .left),
+      omega (arith, scan .before .if2 .left),
+      subst (Scans (s .args .text .now)) (c .before .s2 .given .1) (scan .scan .ensures),
     )
 
 signed64-requires-2 : tie.Need-signed64-requires-2
 unfolding w64 infinity allOnes
 signed64-requires-2 c κs =
     let s = c .before .before .before .before .before .before .before .before in
-    let says = subst (Measures (s .args .text .now)) (c .before .before .s2 .given .1) (c .before .before .before .before .measure .ensures) in
-    omega (arith, no-further w64 (s .args .text .now) _ (c .magnitude64 .result) 0x7ff0000000000000 (says .0) (c .magnitude64 .ensures) refl)
+    let says = subst (Scans (s .args .text .now)) (c .before .before .s2 .given .1) (c .before .before .before .before .scan .ensures) in
+    omega (arith, no-further w64 (s .args .text .now) _ (c .magnitude64 .result) 0x7ff0000000000000 says (c .magnitude64 .ensures) refl)
 
 returns-3 : tie.Need-returns-3
 returns-3 c =
     let s = c .before .before .before .before .before .before in
-    let measured = c .before .before in
-    nothing w64 (s .args .text .now) (omega (arith, measured .before .before .if1 .left)) (omega (arith, measured .before .if2 .left))
-    (subst (Measures (s .args .text .now)) (c .enum-told .given .1) (measured .measure .ensures))
+    let scan = c .before .before in
+    nothing w64 (s .args .text .now) (omega (arith, scan .before .before .if1 .left)) (omega (arith, scan .before .if2 .left))
+    (subst (Scans (s .args .text .now)) (c .enum-told .given .1) (scan .scan .ensures))
 
 returns-4 : tie.Need-returns-4
 unfolding w64 quietNaN infinity allOnes
 returns-4 c =
     let s = c .before .before .before .before .before .before in
-    let measured = c .before .before in
-    a-nan w64 (s .args .text .now) (omega (arith, measured .before .before .if1 .left)) (omega (arith, measured .before .if2 .left))
-    (subst (Measures (s .args .text .now)) (c .enum-told2 .given .1) (measured .measure .ensures)) 0x7ff8000000000000 refl
+    let scan = c .before .before in
+    a-nan w64 (s .args .text .now) (omega (arith, scan .before .before .if1 .left)) (omega (arith, scan .before .if2 .left))
+    (subst (Scans (s .args .text .now)) (c .enum-told2 .given .1) (scan .scan .ensures)) 0x7ff8000000000000 refl
 
 returns-5 : tie.Need-returns-5
 unfolding w64 infinity allOnes
 returns-5 c =
     let s = c .before .before .before .before .before .before .before .before in
-    let measured = c .before .before .before .before in
-    an-infinity w64 (s .args .text .now) (omega (arith, measured .before .before .if1 .left)) (omega (arith, measured .before .if2 .left)) _
-    (subst (Measures (s .args .text .now)) (c .before .before .s .given .1) (measured .measure .ensures)) _ 0x7ff0000000000000 refl (c .signed64 .ensures)
+    let scan = c .before .before .before .before in
+    an-infinity w64 (s .args .text .now) (omega (arith, scan .before .before .if1 .left)) (omega (arith, scan .before .if2 .left)) _
+    (subst (Scans (s .args .text .now)) (c .before .before .s .given .1) (scan .scan .ensures)) _ 0x7ff0000000000000 refl (c .signed64 .ensures)
 
 returns-6 : tie.Need-returns-6
 returns-6 c =
     let s = c .before .before .before .before .before .before .before .before .before in
-    let measured = c .before .before .before .before .before in
-    a-number w64 (s .args .text .now) (omega (arith, measured .before .before .if1 .left)) (omega (arith, measured .before .if2 .left)) _
-    (subst (Measures (s .args .text .now)) (c .before .before .before .s2 .given .1) (measured .measure .ensures) .0) _ (c .before .magnitude64 .result)
+    let scan = c .before .before .before .before .before in
+    a-number w64 (s .args .text .now) (omega (arith, scan .before .before .if1 .left)) (omega (arith, scan .before .if2 .left)) _
+    (subst (Scans (s .args .text .now)) (c .before .before .before .s2 .given .1) (scan .scan .ensures)) _ (c .before .magnitude64 .result)
     (c .before .magnitude64 .ensures) (c .signed642 .ensures)
 
 pub read64-spec : {M : Type 1} → statement M
@@ -91,7 +89,7 @@ read64-spec =
     (tie.spec
     returns
     returns-2
-    measure-requires
+    scan-requires
     enum-told
     enum-told-2
     enum-known-s
