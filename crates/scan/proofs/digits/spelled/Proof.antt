@@ -18,7 +18,7 @@ joined-requires : tie.Need-joined-requires
 joined-requires c κs = and-le-r (c .before .before .args .v) 0x0F0F_0F0F_0F0F_0F0F
 
 returns-3 : tie.Need-returns-3
-returns-3 c = spelled (c .before .before .if1 .left) (c .before .if2 .left) (c .joined .ensures)
+returns-3 c = spelled {v = c .before .before .before .args .v} {r = c .joined .result} (c .before .before .if1 .left) (c .before .if2 .left) (c .joined .ensures)
 
 pub spelled-spec : {M : Type 1} → statement M
 spelled-spec = tie.close (tie.spec returns add-if2 returns-2 joined-requires returns-3)
