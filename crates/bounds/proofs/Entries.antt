@@ -51,14 +51,16 @@ module _ (w : Width) (r : Readable w) (a d up down i x z e : ℕ) (at : i + down
       nearest w (m * 2 ^ e) (2 ^ 1200) ≤ nearest w (a * 10 ^ up) (10 ^ down)
   at-least digits m kept product =
       nearest-mono w r (m * 2 ^ e) (2 ^ 1200) (a * 10 ^ up) (10 ^ down) (pow-pos 1200) (ten-pos down)
-      (under a digits x m (10 ^ 342) (10 ^ i) (10 ^ down) (10 ^ up) (10 ^ d) (2 ^ z) (2 ^ 1200) (2 ^ exponent i) (2 ^ 64) (2 ^ e) (ten-pos 342) (pow-pos z) powers twos (l .below) kept product)
+      (under a digits x m (10 ^ 342) (10 ^ i) (10 ^ down) (10 ^ up) (10 ^ d) (2 ^ z) (2 ^ 1200) (2 ^ exponent i) (2 ^ 64) (2 ^ e) (ten-pos 342)
+      (pow-pos z) powers twos (l .below) kept product)
 
   -- What the upper end reads as is not below it.
   pub at-most : (j m : ℕ) → a ≤ j * 10 ^ d → j * 2 ^ z * (x + 1) ≤ m * 2 ^ 64 →
       nearest w (a * 10 ^ up) (10 ^ down) ≤ nearest w (m * 2 ^ e) (2 ^ 1200)
   at-most j m kept product =
       nearest-mono w r (a * 10 ^ up) (10 ^ down) (m * 2 ^ e) (2 ^ 1200) (ten-pos down) (pow-pos 1200)
-      (over a j x m (10 ^ 342) (10 ^ i) (10 ^ down) (10 ^ up) (10 ^ d) (2 ^ z) (2 ^ 1200) (2 ^ exponent i) (2 ^ 64) (2 ^ e) (ten-pos 342) (pow-pos z) powers twos (le-of-lt (l .above)) kept product)
+      (over a j x m (10 ^ 342) (10 ^ i) (10 ^ down) (10 ^ up) (10 ^ d) (2 ^ z) (2 ^ 1200) (2 ^ exponent i) (2 ^ 64) (2 ^ e) (ten-pos 342)
+      (pow-pos z) powers twos (le-of-lt (l .above)) kept product)
 
 -- ---- what the upper half m of a product leaves open
 pub product-least : (f x m : ℕ) → m ≡ f * x / 2 ^ 64 → m * 2 ^ 64 ≤ f * x

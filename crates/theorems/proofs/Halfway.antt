@@ -27,7 +27,9 @@ module _ (u : ℕ → ℕ) (rise : (v : ℕ) → u v < u (suc v)) (n d p x : ℕ
   unfolding middle
   past h =
       ⊎-elim (λ l. l)
-      (λ (l : p ≤ x). absurd (omega (arith, r .up, mul-le-mul-right d (keeps u rise l), mul-le-mul-right d (keeps u rise {x = suc p} {y = suc x} (omega arith)))))
+      (λ (l : p ≤ x).
+      let next = keeps u rise {x = suc p} {y = suc x} (omega arith) in
+      absurd (omega (arith, r .up, mul-le-mul-right d (keeps u rise l), mul-le-mul-right d next)))
       (which x p)
 
   -- Below it to no later one.

@@ -18,7 +18,10 @@ returns : tie.Need-returns Inv-loop μ-loop
 returns c = c .before .before .loop .inv
 
 add-p : tie.Need-add-p Inv-loop μ-loop
-add-p c = let l = c .before .before .loop in omega (arith, few-off _ (c .before .before .before .args .place) (l .d) (l .p) (l .inv) (omega arith) (omega arith), c .before .before .before .pre)
+add-p c =
+    let l = c .before .before .loop in
+    let s = c .before .before .before in
+    omega (arith, few-off _ (s .args .place) (l .d) (l .p) (l .inv) (omega arith) (omega arith), s .pre)
 
 loop-less : tie.Need-loop-less Inv-loop μ-loop
 loop-less c = omega arith

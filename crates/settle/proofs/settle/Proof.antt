@@ -46,14 +46,17 @@ enum-told-2 : tie.Need-enum-told-2 Inv-loop μ-loop
 enum-told-2 c = search needs
 
 even-of-requires : tie.Need-even-of-requires Inv-loop μ-loop
-even-of-requires c κs = let l = c .before .before .before .before .before in omega (arith, l .before .before .before .pre .4 .fits, l .before .infinity .ensures, c .before .before .before .if1 .left)
+even-of-requires c κs =
+    let l = c .before .before .before .before .before in
+    omega (arith, l .before .before .before .pre .4 .fits, l .before .infinity .ensures, c .before .before .before .if1 .left)
 
 returns-3 : tie.Need-returns-3 Inv-loop μ-loop
 returns-3 c =
     let told = c .before in
     let l = told .before .before .before .before .before in
     let s = l .before .before .before in
-    let inside : l .loop .p < s .args .t .ones * 2 ^ s .args .t .fraction = omega (arith, l .before .infinity .ensures, told .before .before .before .if1 .left) in
+    let inside : l .loop .p < s .args .t .ones * 2 ^ s .args .t .fraction =
+    omega (arith, l .before .infinity .ensures, told .before .before .before .if1 .left) in
     subst (Settles (s .args .t) _ _ (s .args .least) (s .args .most)) (sym (c .even-of .ensures))
     (when-equal (s .args .t) _ _ (s .args .least) (s .args .most) (l .loop .p) (l .loop .inv) inside
     (subst (Side (s .args .t) _ _ (l .loop .p)) (told .enum-told2 .given .1) (told .before .before .side .ensures)))

@@ -24,7 +24,8 @@ against-requires c κs = search needs
 returns : tie.Need-returns
 returns c =
     let s = c .before .before .before .before .before .before in
-    below-unit (s .args .t) (c .against .result) (mantissa 0 (drop (s .args .from) (s .args .text .now))) (s .args .tens) (s .args .p) _ _ (c .before .before .before .before .midpoint-above .ensures) (c .before .before .if1 .taken) (c .against .ensures)
+    below-unit (s .args .t) (c .against .result) (mantissa 0 (drop (s .args .from) (s .args .text .now))) (s .args .tens) (s .args .p) _ _
+    (c .before .before .before .before .midpoint-above .ensures) (c .before .before .if1 .taken) (c .against .ensures)
 
 add-against-2 : tie.Need-add-against-2
 add-against-2 c = search needs
@@ -35,7 +36,8 @@ against-requires-2 c κs = search needs
 returns-2 : tie.Need-returns-2
 returns-2 c =
     let s = c .before .before .before .before .before in
-    above-unit (s .args .t) (c .against2 .result) (mantissa 0 (drop (s .args .from) (s .args .text .now))) (s .args .tens) (s .args .p) _ _ (c .before .before .before .midpoint-above .ensures) (c .before .if1 .left) (c .against2 .ensures)
+    above-unit (s .args .t) (c .against2 .result) (mantissa 0 (drop (s .args .from) (s .args .text .now))) (s .args .tens) (s .args .p) _ _
+    (c .before .before .before .midpoint-above .ensures) (c .before .if1 .left) (c .against2 .ensures)
 
 pub side-spec : {M : Type 1} → statement M
 side-spec =
