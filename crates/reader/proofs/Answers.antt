@@ -6,16 +6,13 @@ use Prim.Native.Nat.{ℕ, _≤_, _<_}
 use lib.ListN.{length}
 use Rattle.rules.specs.Width.{Width}
 use Rattle.rules.specs.Reading.{Exact, refused, notANumber, infinite, number, exact, infinity, withSign}
-use Rattle.rules.specs.Reader.{Reading, quietNaN, answered, reading}
+use Rattle.rules.specs.Reader.{quietNaN, answered, reading}
 use Rattle.theorems.proofs.Halfway.{no-more}
 use Rattle.theorems.proofs.ReadLength.{in-length}
+use Rattle.theorems.proofs.ReadBack.{Pattern}
 use Rattle.scan.specs.declared.Decimal.{Decimal}
 use Rattle.scan.specs.Scans.{Says}
 use Rattle.reader.specs.Reads.{Reads}
-
--- A pattern that was read.
-abbrev Pattern : ℕ → Reading
-Pattern v = record { number = 0; pattern = v }
 
 module _ (w : Width) (t : List ℕ) (some : 0 < length t) (few : length t ≤ 64) where
   -- What the text says is what is answered to.
