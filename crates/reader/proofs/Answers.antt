@@ -1,12 +1,13 @@
 -- From what a scan says of a text to what is answered, over the width. Assumes nothing.
-use mathlib.Core.Bool.{Bool}
+use mathlib.Core.Bool.{Bool, true, false}
 use mathlib.Core.List.{List}
 use mathlib.Core.Path.{_≡_, sym, ap, _∙_}
-use Prim.Native.Nat.{ℕ, _≤_, _<_}
+use Prim.Native.Nat.{ℕ, _+_, _-_, _^_, _≤_, _<_}
+use native.Mathlib.Omega.{arith}
 use lib.ListN.{length}
 use Rattle.rules.specs.Width.{Width}
 use Rattle.rules.specs.Reading.{Exact, refused, notANumber, infinite, number, exact, infinity, withSign}
-use Rattle.rules.specs.Reader.{quietNaN, answered, reading}
+use Rattle.rules.specs.Reader.{Reading, quietNaN, answered, unread, reading}
 use Rattle.theorems.proofs.Halfway.{no-more}
 use Rattle.theorems.proofs.ReadLength.{in-length}
 use Rattle.theorems.proofs.ReadBack.{Pattern}
@@ -36,5 +37,27 @@ module _ (w : Width) (t : List ℕ) (some : 0 < length t) (few : length t ≤ 64
   a-number x s v m reads is = ap Pattern (is ∙ ap (withSign w (x .negative)) (reads s)) ∙ saying (number (x .negative) _ _) (s .says)
 
 -- A number reads as no pattern beyond the infinity.
-pub no-further : (w : Width) (t : List ℕ) (x : Decimal) (m top : ℕ) → Says t x → Reads w t x m → infinity w ≡ top → m ≤ top
-no-further w t x m top s reads is = rw (reads s, ← is) (no-more w _ _)
+pub no-further : (w : Width) (t : List ℕ) (x : Decimal) (m : ℕ) → Says t x → Reads w t x m → m ≤ infinity w
+no-further w t x m s reads = rw (reads s) (no-more w _ _)
+
+-- No answer's pattern is beyond the quiet NaN with a sign.
+module _ (w : Width) where
+  abbrev InWidth : Reading → Type 0
+  InWidth a = a .pattern ≤ 2 ^ (w .bits - 1) + quietNaN w
+
+  says-in-width : (x : Exact) → InWidth (answered w x)
+  unfolding answered quietNaN withSign
+  says-in-width refused = omega arith
+  says-in-width notANumber = omega arith
+  says-in-width (infinite true) = omega arith
+  says-in-width (infinite false) = omega arith
+  says-in-width (number true n d) = omega (arith, no-more w n d)
+  says-in-width (number false n d) = omega (arith, no-more w n d)
+
+  pub in-width : (t : List ℕ) → InWidth (reading w t)
+  unfolding reading
+  in-width t = by (unread (length t))
+    where
+      by : (b : Bool) → InWidth (elim b [ true ↦ record { number = 10; pattern = 0 } | false ↦ answered w (exact t) ])
+      by true = omega arith
+      by false = says-in-width (exact t)

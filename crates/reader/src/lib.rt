@@ -7,10 +7,11 @@ ghost use mathlib.Core.Path.{_≡_};
 ghost use Prim.Native.Nat.{_^_, _≤_, _<_};
 ghost use lib.ListN.{length};
 ghost use Rattle.rules.specs.Width.{Width, w32, w64};
-ghost use Rattle.rules.specs.Reading.{withSign};
-ghost use Rattle.rules.specs.Reader.{reading};
+ghost use Rattle.rules.specs.Reading.{infinity, withSign};
+ghost use Rattle.rules.specs.Reader.{quietNaN, reading};
 ghost use Rattle.scan.specs.Scans.{Says};
 ghost use Rattle.closest.specs.Targets.{Targets, Sized};
+ghost use Rattle.reader.specs.Widths.{widthOf};
 ghost use Rattle.reader.specs.Told.{told32, told64};
 ghost use Rattle.reader.specs.Reads.{decimal, Behind, Reads};
 ghost use Rattle.reader.specs.Scaled.{Scaled};
@@ -134,7 +135,7 @@ fn tabled32(
     )
 }
 
-// The pattern without a sign that a number reads as at 64 bits, by its product or by comparison.
+// The pattern without a sign that a number reads as at 64 bits, by its product, the quick way where it serves, or by comparison.
 fn tabled64(
     text: &[u8],
     negative: bool,
@@ -154,6 +155,12 @@ fn tabled64(
             return v;
         }
     }
+    if !more {
+        let q = fast::quickly(digits, place);
+        if let Quick::Pattern(v) = q {
+            return v;
+        }
+    }
     compared(
         text,
         negative,
@@ -166,91 +173,64 @@ fn tabled64(
     )
 }
 
-// The pattern without a sign that a number reads as at 32 bits.
-fn magnitude32(
+// The pattern without a sign that a number reads as.
+fn magnitude(
     text: &[u8],
     negative: bool,
     digits: u64,
     dropped: u32,
     more: bool,
     place: u32,
+    wide: bool,
 ) -> u64
     requires { ⌜ (0 < length (now text)) × (length (now text) ≤ 64) × Says (now text) (decimal negative digits dropped more place) ⌝ }
-    ensures { λ r. ⌜ Reads w32 (now (text .entry)) (decimal negative digits dropped more place) r ⌝ }
+    ensures { λ r. ⌜ Reads (widthOf wide) (now (text .entry)) (decimal negative digits dropped more place) r ⌝ }
 {
     let p = scaled(digits, place);
+    if wide {
+        return tabled64(text, negative, digits, dropped, more, place, p);
+    }
     tabled32(text, negative, digits, dropped, more, place, p)
 }
 
-// The pattern without a sign that a number reads as at 64 bits, the quick way where it serves.
-fn magnitude64(
-    text: &[u8],
-    negative: bool,
-    digits: u64,
-    dropped: u32,
-    more: bool,
-    place: u32,
-) -> u64
-    requires { ⌜ (0 < length (now text)) × (length (now text) ≤ 64) × Says (now text) (decimal negative digits dropped more place) ⌝ }
-    ensures { λ r. ⌜ Reads w64 (now (text .entry)) (decimal negative digits dropped more place) r ⌝ }
+// The pattern of the infinity.
+fn infinite(wide: bool) -> u64
+    ensures { λ r. ⌜ r ≡ infinity (widthOf wide) ⌝ }
 {
-    if !more {
-        let q = fast::quickly(digits, place);
-        if let Quick::Pattern(v) = q {
-            return v;
+    if wide {
+        return 0x7ff0_0000_0000_0000;
+    }
+    0x7f80_0000
+}
+
+// The pattern that `NaN` is read as.
+fn quiet_nan(wide: bool) -> u64
+    ensures { λ r. ⌜ r ≡ quietNaN (widthOf wide) ⌝ }
+{
+    if wide {
+        return 0x7ff8_0000_0000_0000;
+    }
+    0x7fc0_0000
+}
+
+// A pattern with a sign.
+fn signed(negative: bool, v: u64, wide: bool) -> u64
+    requires { ⌜ v ≤ infinity (widthOf wide) ⌝ }
+    ensures { λ r. ⌜ r ≡ withSign (widthOf wide) negative v ⌝ }
+{
+    if negative {
+        if wide {
+            return 0x8000_0000_0000_0000 + v;
         }
-    }
-    let p = scaled(digits, place);
-    tabled64(text, negative, digits, dropped, more, place, p)
-}
-
-// A pattern of 32 bits with a sign.
-fn signed32(negative: bool, v: u64) -> u32
-    requires { ⌜ v < 2 ^ 31 ⌝ }
-    ensures { λ r. ⌜ r ≡ withSign w32 negative v ⌝ }
-{
-    if negative {
-        return 2147483648 + v as u32;
-    }
-    v as u32
-}
-
-// A pattern of 64 bits with a sign.
-fn signed64(negative: bool, v: u64) -> u64
-    requires { ⌜ v < 2 ^ 63 ⌝ }
-    ensures { λ r. ⌜ r ≡ withSign w64 negative v ⌝ }
-{
-    if negative {
-        return 9223372036854775808 + v;
+        return 0x8000_0000 + v;
     }
     v
 }
 
-// Reads a text as binary32.
-pub fn read32(text: &[u8]) -> Outcome32
-    ensures { λ r. ⌜ told32 r ≡ reading w32 (now (text .entry)) ⌝ }
-{
-    if text.len() == 0 {
-        return Outcome32::WrongLength;
-    }
-    if LONGEST < text.len() {
-        return Outcome32::WrongLength;
-    }
-    let s = scan::scan(text);
-    match s {
-        Scanned::Refused => Outcome32::WrongForm,
-        Scanned::NotANumber => Outcome32::Pattern(0x7fc00000),
-        Scanned::Infinite(negative) => Outcome32::Pattern(signed32(negative, 0x7f800000)),
-        Scanned::Number(x) => Outcome32::Pattern(signed32(
-            x.negative,
-            magnitude32(text, x.negative, x.digits, x.dropped, x.more, x.place),
-        )),
-    }
-}
-
-// Reads a text as binary64.
-pub fn read64(text: &[u8]) -> Outcome64
-    ensures { λ r. ⌜ told64 r ≡ reading w64 (now (text .entry)) ⌝ }
+// Reads a text as binary64 if wide, else as binary32, a pattern of 32 bits. The scan is called here and nowhere else, and so becomes a
+// part of this function when it is compiled.
+fn read(text: &[u8], wide: bool) -> Outcome64
+    ensures { λ r. ⌜ told64 r ≡ reading (widthOf wide) (now (text .entry)) ⌝ }
 {
     if text.len() == 0 {
         return Outcome64::WrongLength;
@@ -261,11 +241,38 @@ pub fn read64(text: &[u8]) -> Outcome64
     let s = scan::scan(text);
     match s {
         Scanned::Refused => Outcome64::WrongForm,
-        Scanned::NotANumber => Outcome64::Pattern(0x7ff8000000000000),
-        Scanned::Infinite(negative) => Outcome64::Pattern(signed64(negative, 0x7ff0000000000000)),
-        Scanned::Number(x) => Outcome64::Pattern(signed64(
+        Scanned::NotANumber => Outcome64::Pattern(quiet_nan(wide)),
+        Scanned::Infinite(negative) => Outcome64::Pattern(signed(negative, infinite(wide), wide)),
+        Scanned::Number(x) => Outcome64::Pattern(signed(
             x.negative,
-            magnitude64(text, x.negative, x.digits, x.dropped, x.more, x.place),
+            magnitude(text, x.negative, x.digits, x.dropped, x.more, x.place, wide),
+            wide,
         )),
     }
+}
+
+// An outcome in 32 bits.
+fn narrowed(o: Outcome64) -> Outcome32
+    requires { ⌜ told64 o .pattern < 2 ^ 32 ⌝ }
+    ensures { λ r. ⌜ told32 r ≡ told64 o ⌝ }
+{
+    match o {
+        Outcome64::Pattern(v) => Outcome32::Pattern(v as u32),
+        Outcome64::WrongLength => Outcome32::WrongLength,
+        Outcome64::WrongForm => Outcome32::WrongForm,
+    }
+}
+
+// Reads a text as binary32.
+pub fn read32(text: &[u8]) -> Outcome32
+    ensures { λ r. ⌜ told32 r ≡ reading w32 (now (text .entry)) ⌝ }
+{
+    narrowed(read(text, false))
+}
+
+// Reads a text as binary64.
+pub fn read64(text: &[u8]) -> Outcome64
+    ensures { λ r. ⌜ told64 r ≡ reading w64 (now (text .entry)) ⌝ }
+{
+    read(text, true)
 }

@@ -1,9 +1,12 @@
--- `reader::tabled64` meets its contract: at once, or by comparison. Assumes nothing.
+-- `reader::tabled64` meets its contract: at once, the quick way, or by comparison. Assumes nothing.
+use mathlib.Core.Bool.{Bool, true, false, not}
+use mathlib.Core.Path.{_≡_, refl, sym, subst}
 use borrow.Author.Needs.{needs}
 use Rattle.rules.specs.Width.{w64}
+use Rattle.fast.specs.Quick.{Finds}
 use Rattle.reader.specs.Reads.{decimal}
 use Rattle.reader.proofs.Extremes.{spanned64}
-use Rattle.reader.proofs.Magnitudes.{shown-at-once}
+use Rattle.reader.proofs.Magnitudes.{shown-at-once, found-quickly}
 use Rattle.reader.proofs.tabled64.Statement.{statement}
 use Rattle.reader.proofs.tabled64.Tie as tie
 
@@ -22,14 +25,46 @@ returns c =
     shown-at-once w64 spanned64 (s .args .text .now) x _ (c .before .before .binary64 .ensures .0) _ _
     (s .pre .3 .tabled (c .before .before .before .if1 .taken)) (s .pre .3) _ (c .if2 .taken) (c .before .at-once .ensures)
 
+untrue : (b : Bool) → not b ≡ true → b ≡ false
+untrue true e = sym e
+untrue false e = refl
+
+quickly-requires : tie.Need-quickly-requires
+quickly-requires c κs = search needs
+
+enum-known-q : tie.Need-enum-known-q
+enum-known-q c = search needs
+
+returns-2 : tie.Need-returns-2
+returns-2 c =
+    let s = c .before .before .before .before .before .before .before .before in
+    let x = decimal (s .args .negative) (s .args .digits) (s .args .dropped) (s .args .more) (s .args .place) in
+    found-quickly (s .args .text .now) x _ (untrue (s .args .more) (c .before .before .before .before .if3 .taken))
+    (subst (Finds (s .args .digits) (s .args .place)) (c .before .q .given .1) (c .before .before .before .quickly .ensures))
+
+enum-told : tie.Need-enum-told
+enum-told c = search needs
+
 binary64-requires-2 : tie.Need-binary64-requires-2
 binary64-requires-2 c κs = search needs
 
 compared-requires : tie.Need-compared-requires
 compared-requires c κs = search needs
 
-returns-2 : tie.Need-returns-2
-returns-2 c = c .compared .ensures w64 spanned64 (c .before .binary642 .ensures .0)
+returns-3 : tie.Need-returns-3
+returns-3 c = c .compared .ensures w64 spanned64 (c .before .binary642 .ensures .0)
 
 pub tabled64-spec : {M : Type 1} → statement M
-tabled64-spec = tie.close (tie.spec binary64-requires at-once-requires returns binary64-requires-2 compared-requires returns-2)
+tabled64-spec =
+    tie.close
+    (tie.spec
+    binary64-requires
+    at-once-requires
+    returns
+    quickly-requires
+    enum-known-q
+    returns-2
+    enum-told
+    binary64-requires-2
+    compared-requires
+    returns-3)
