@@ -27,6 +27,8 @@ pub enum Kind {
     Halfway64,
     /// The same from the smallest number to the largest, where few fit to their last digit.
     HalfwayAnywhere,
+    /// Halfway between two numbers of f64, by few digits and a power of ten.
+    HalfwayByPower,
     ZeroOrName,
 }
 
@@ -45,7 +47,8 @@ impl Texts {
     pub fn make(&mut self, draws: &mut Draws) -> &[u8] {
         let negative = draws.once_in(2);
         let kind = match draws.below(32) {
-            0..8 => Kind::Any,
+            0 => Kind::HalfwayByPower,
+            1..8 => Kind::Any,
             8..16 => Kind::Near,
             16..20 => Kind::NearEnds,
             20..25 => Kind::Halfway32,
@@ -82,6 +85,7 @@ impl Texts {
                 self.halfway::<Binary64>(magnitude, draws);
             }
             Kind::HalfwayAnywhere => self.halfway_anywhere(draws),
+            Kind::HalfwayByPower => self.halfway_by_power(draws),
             Kind::ZeroOrName => self.zero_or_name(draws),
         }
         &self.written.text
@@ -117,6 +121,17 @@ impl Texts {
             2 => self.halfway::<Binary64>(bits >> 12, draws),
             _ => self.halfway::<Binary64>(bits >> 1, draws),
         }
+    }
+
+    /// Digits times a power of ten that f64 has, of which the fives make an odd number of 54 bits: one more than f64 keeps.
+    fn halfway_by_power(&mut self, draws: &mut Draws) {
+        let power = draws.between(1, 22);
+        let fives = 5u64.pow(power as u32);
+        let (least, end) = ((1 << 53) / fives + 1, (1 << 54) / fives);
+        let digits = (least + draws.bits() % (end - least)) | 1;
+        self.whole.set(digits, 10, 0);
+        self.whole.write(&mut self.written.digits);
+        self.written.lay_out(power, draws);
     }
 
     /// The point halfway between a magnitude and the next one, to its last digit where that fits; one in eight times the magnitude

@@ -17,7 +17,7 @@ pub type Line = Vec<u8>;
 const SEED: u64 = 0x7265_6164;
 
 /// The kinds of texts that are drawn, and how many of each.
-const DRAWN: [(&str, Kind, u64); 7] = [
+const DRAWN: [(&str, Kind, u64); 8] = [
     ("any digits with a point anywhere, and an exponent of 0 to 4 digits", Kind::Any, 2000),
     ("any digits, the first at a decimal place of -400 to 400", Kind::Near, 2000),
     ("any digits, near the ends of the decimal exponents of a width", Kind::NearEnds, 2000),
@@ -25,6 +25,7 @@ const DRAWN: [(&str, Kind, u64); 7] = [
     ("halfway between two numbers of f64, or close to that", Kind::Halfway64, 2500),
     ("the same from the smallest number to the largest, cut where it is too long", Kind::HalfwayAnywhere, 1000),
     ("zeros and names", Kind::ZeroOrName, 300),
+    ("halfway between two numbers of f64, by few digits and a power of ten", Kind::HalfwayByPower, 300),
 ];
 
 /// Texts that are refused, by kind, with a bar between two.
