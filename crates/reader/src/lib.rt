@@ -213,18 +213,25 @@ fn quiet_nan(wide: bool) -> u64
     0x7fc0_0000
 }
 
-// A pattern with a sign.
+// The bit of a sign.
+fn sign_bit(negative: bool, wide: bool) -> u64
+    ensures { λ r. ⌜ r ≡ withSign (widthOf wide) negative 0 ⌝ }
+{
+    if negative {
+        if wide {
+            return 0x8000_0000_0000_0000;
+        }
+        return 0x8000_0000;
+    }
+    0
+}
+
+// A pattern with a sign. The sign is added as a number, since no branch on it can be foreseen.
 fn signed(negative: bool, v: u64, wide: bool) -> u64
     requires { ⌜ v ≤ infinity (widthOf wide) ⌝ }
     ensures { λ r. ⌜ r ≡ withSign (widthOf wide) negative v ⌝ }
 {
-    if negative {
-        if wide {
-            return 0x8000_0000_0000_0000 + v;
-        }
-        return 0x8000_0000 + v;
-    }
-    v
+    sign_bit(negative, wide) + v
 }
 
 // Reads a text as binary64 if wide, else as binary32, a pattern of 32 bits. The scan is called here and nowhere else, and so becomes a
