@@ -3,7 +3,7 @@ use mathlib.Core.Bool.{Bool, true, false, true≢false}
 use mathlib.Core.Logic.{_⊎_, ⊎-elim}
 use mathlib.Core.Path.{_≡_, refl, sym, ap, _∙_}
 use Prim.Native.Nat.{ℕ, zero, suc, _+_, _-_, _*_, _^_, _≤_, _<_}
-use native.Mathlib.Nat.{pow-succ', mul-le-mul-left, mul-le-mul-right}
+use native.Mathlib.Nat.{pow-succ', pow-le-pow-right, mul-le-mul-left, mul-le-mul-right}
 use native.Mathlib.Numerals.{add-one}
 use native.Mathlib.Omega.{arith}
 use lib.Dec.{lit<}
@@ -81,3 +81,11 @@ room w n v few short small =
   where
     together : (n : ℕ) → n ≤ 18 → 18 - n + n ≡ 18
     together n few = omega arith
+
+-- Fewer than eighteen digits and one more are kept.
+pub another : (w n x : ℕ) → n < 18 → w < 10 ^ n → x < 10 → (w * 10 + x < 10 ^ (n + 1)) × (w * 10 + x < 10 ^ 18)
+another w n x few short digit =
+    let ten : 10 ^ (n + 1) ≡ 10 * 10 ^ n = rw (add-one n) (pow-succ' 10 n) in
+    let no-more : n + 1 ≤ 18 = omega arith in
+    let most : 10 ^ (n + 1) ≤ 10 ^ 18 = pow-le-pow-right (lit< tt) no-more in
+    (rw ten (omega arith), omega (arith, ten, most))

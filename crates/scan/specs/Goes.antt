@@ -14,6 +14,10 @@ use Rattle.scan.specs.Passes.{Passes}
 abbrev pub Keeps : ℕ → Held → Type 0
 Keeps a h = Kept a (h .digits) (h .dropped) (h .more)
 
+-- Of no digits, nothing is held.
+abbrev pub noDigits : Held
+noDigits = record { digits = 0; dropped = 0; more = false }
+
 -- Behind n digits at the head of the text t, which follow the number a, is the text u, and `held` is kept of the whole number.
 pub record Leads (a : ℕ) (t : List ℕ) (n : ℕ) (u : List ℕ) (held : Held) : Type 0 where
   pub all : ℕ

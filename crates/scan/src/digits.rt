@@ -8,7 +8,7 @@ ghost use Rattle.rules.specs.Bytes.{byte0};
 ghost use Rattle.rules.specs.Reading.{isDigit};
 ghost use Rattle.scan.specs.Passes.{Makes};
 ghost use Rattle.scan.specs.Spells.{Joins, Spells};
-ghost use Rattle.scan.specs.Goes.{Keeps, Goes, Reaches};
+ghost use Rattle.scan.specs.Goes.{Keeps, noDigits, Goes, Reaches};
 
 // What is kept of digits.
 pub struct Held {
@@ -67,7 +67,7 @@ fn push(held: Held, digit: u64) -> Held
 }
 
 // The digits from a place on, one by one.
-pub fn digits(s: &[u8], from: usize, start: Held) -> Run
+fn digits(s: &[u8], from: usize, start: Held) -> Run
     requires { ⌜ (from ≤ length (now s)) × (length (now s) ≤ 64) × (start .dropped ≤ from) ⌝ }
     ensures { λ r. ⌜ Reaches (now (s .entry)) from start r ⌝ }
 {
@@ -82,6 +82,59 @@ pub fn digits(s: &[u8], from: usize, start: Held) -> Run
         i += 1;
     }
     Run { at: i, held }
+}
+
+// The place at which 18 digits from a place on end, or the text.
+fn end_of_18(s: &[u8], from: usize) -> usize
+    requires { ⌜ (from ≤ length (now s)) × (length (now s) ≤ 64) ⌝ }
+    ensures { λ r. ⌜ (r ≤ from + 18) × (r ≤ length (now (s .entry))) ⌝ }
+{
+    if from + 18 < s.len() {
+        return from + 18;
+    }
+    s.len()
+}
+
+// Digits from a place on, one by one, 18 at most: all of them are kept, with no test for room.
+fn leading(s: &[u8], from: usize) -> Run
+    requires { ⌜ (from ≤ length (now s)) × (length (now s) ≤ 64) ⌝ }
+    ensures { λ r. ⌜ Goes (now (s .entry)) from noDigits (r .at) (r .held) ⌝ }
+{
+    let end = end_of_18(s, from);
+    let mut n: u64 = 0;
+    let mut i = from;
+    while i < end {
+        let digit = value(s[i]);
+        if 9 < digit {
+            return Run {
+                at: i,
+                held: Held {
+                    digits: n,
+                    dropped: 0,
+                    more: false,
+                },
+            };
+        }
+        n = n * 10 + digit;
+        i += 1;
+    }
+    Run {
+        at: i,
+        held: Held {
+            digits: n,
+            dropped: 0,
+            more: false,
+        },
+    }
+}
+
+// The digits from a place on, before which there are none.
+pub fn whole(s: &[u8], from: usize) -> Run
+    requires { ⌜ (from ≤ length (now s)) × (length (now s) ≤ 64) ⌝ }
+    ensures { λ r. ⌜ Reaches (now (s .entry)) from noDigits r ⌝ }
+{
+    let front = leading(s, from);
+    digits(s, front.at, front.held)
 }
 
 // Four bytes of a text as one word, the first the lowest.

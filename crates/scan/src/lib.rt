@@ -14,7 +14,6 @@ mod digits;
 mod heads;
 mod power;
 
-use digits::Held;
 use digits::Run;
 use heads::Signed;
 
@@ -62,15 +61,7 @@ fn number(s: &[u8], from: usize, negative: bool) -> Scanned
     requires { ⌜ (from ≤ length (now s)) × (length (now s) ≤ 64) × (starts (drop from (now s)) ≡ true) ⌝ }
     ensures { λ r. ⌜ Tells (unsigned (drop from (now (s .entry)))) (mantissa 0 (drop from (now (s .entry)))) negative r ⌝ }
 {
-    let whole = digits::digits(
-        s,
-        from,
-        Held {
-            digits: 0,
-            dropped: 0,
-            more: false,
-        },
-    );
+    let whole = digits::whole(s, from);
     let dot = whole.at;
     if !heads::begins_at(s, dot, b'.') {
         return finished(s, whole, 0, negative);

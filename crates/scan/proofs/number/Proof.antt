@@ -10,8 +10,8 @@ use Rattle.scan.proofs.Finding.{alone, no-decimals, decimals}
 use Rattle.scan.proofs.number.Statement.{statement}
 use Rattle.scan.proofs.number.Tie as tie
 
-digits-requires : tie.Need-digits-requires
-digits-requires c κs = search needs
+whole-requires : tie.Need-whole-requires
+whole-requires c κs = search needs
 
 begins-at-requires : tie.Need-begins-at-requires
 begins-at-requires c κs = search needs
@@ -24,7 +24,7 @@ returns c =
     let tested = c .before .before in
     let start = tested .before .before .before in
     let none = sym (tested .begins-at .ensures) ∙ not-true _ (c .before .if1 .taken) in
-    alone (start .pre .2) nothing (tested .before .digits .ensures) (start .args .negative) (c .finished .result) none (c .finished .ensures)
+    alone (start .pre .2) nothing (tested .before .whole .ensures) (start .args .negative) (c .finished .result) none (c .finished .ensures)
 
 add-decimals : tie.Need-add-decimals
 add-decimals c = search needs
@@ -32,7 +32,7 @@ add-decimals c = search needs
 decimals-requires : tie.Need-decimals-requires
 decimals-requires c κs =
     let tested = c .before in
-    let run = tested .before .digits in
+    let run = tested .before .whole in
     let start = tested .before .before .before in
     let dot = sym (tested .begins-at .ensures) ∙ not-false _ (c .if1 .left) in
     (omega (arith, begins-inside point (start .args .s .now) (run .result .at) dot), start .pre .1, omega (arith, run .ensures .goes .few))
@@ -50,7 +50,7 @@ returns-2 c =
     let start = tested .before .before .before in
     let dot = sym (tested .begins-at .ensures) ∙ not-false _ (reached .before .if1 .left) in
     let behind = reached .decimals .ensures in
-    no-decimals (start .pre .2) nothing (tested .before .digits .ensures) dot behind (omega (arith, behind .goes .onward))
+    no-decimals (start .pre .2) nothing (tested .before .whole .ensures) dot behind (omega (arith, behind .goes .onward))
 
 finished-requires-2 : tie.Need-finished-requires-2
 finished-requires-2 c κs = search needs
@@ -61,14 +61,14 @@ returns-3 c =
     let tested = reached .before .before in
     let start = tested .before .before .before in
     let dot = sym (tested .begins-at .ensures) ∙ not-false _ (reached .before .if1 .left) in
-    decimals (start .pre .2) nothing (tested .before .digits .ensures) dot (reached .decimals .ensures) (start .args .negative) (c .finished2 .result)
+    decimals (start .pre .2) nothing (tested .before .whole .ensures) dot (reached .decimals .ensures) (start .args .negative) (c .finished2 .result)
     (omega arith) (c .finished2 .ensures)
 
 pub number-spec : {M : Type 1} → statement M
 number-spec =
     tie.close
     (tie.spec
-    digits-requires
+    whole-requires
     begins-at-requires
     finished-requires
     returns
