@@ -1,7 +1,7 @@
 -- `reader::tabled64` meets its contract: at once, the quick way, or by comparison. Assumes nothing.
-use mathlib.Core.Bool.{Bool, true, false, not}
-use mathlib.Core.Path.{_≡_, refl, sym, subst}
+use mathlib.Core.Path.{subst}
 use borrow.Author.Needs.{needs}
+use borrow.Author.Tests.{not-true}
 use Rattle.rules.specs.Width.{w64}
 use Rattle.fast.specs.Quick.{Finds}
 use Rattle.reader.specs.Reads.{decimal}
@@ -25,10 +25,6 @@ returns c =
     shown-at-once w64 spanned64 (s .args .text .now) x _ (c .before .before .binary64 .ensures .0) _ _
     (s .pre .3 .tabled (c .before .before .before .if1 .taken)) (s .pre .3) _ (c .if2 .taken) (c .before .at-once .ensures)
 
-untrue : (b : Bool) → not b ≡ true → b ≡ false
-untrue true e = sym e
-untrue false e = refl
-
 quickly-requires : tie.Need-quickly-requires
 quickly-requires c κs = search needs
 
@@ -39,7 +35,7 @@ returns-2 : tie.Need-returns-2
 returns-2 c =
     let s = c .before .before .before .before .before .before .before .before in
     let x = decimal (s .args .negative) (s .args .digits) (s .args .dropped) (s .args .more) (s .args .place) in
-    found-quickly (s .args .text .now) x _ (untrue (s .args .more) (c .before .before .before .before .if3 .taken))
+    found-quickly (s .args .text .now) x _ (not-true _ (c .before .before .before .before .if3 .taken))
     (subst (Finds (s .args .digits) (s .args .place)) (c .before .q .given .1) (c .before .before .before .quickly .ensures))
 
 enum-told : tie.Need-enum-told
