@@ -15,6 +15,6 @@ pub record Joins (n r : ℕ) : Type 0 where
 abbrev pub above : ℕ → ℕ
 above b = bitXor b 0x30
 
--- Where the eight bytes that the word v comes from are digits, they make r; else r is 100,000,000.
+-- Where r is below 100,000,000, the eight bytes that the word v comes from are digits, and make r.
 pub record Spells (v r : ℕ) : Type 0 where
   pub spells : (xs : List ℕ) → length xs ≡ 8 → Below 256 xs → word 8 (map above xs) ≡ v → (r ≤ 100000000) × (r < 100000000 → Passes 0 xs 8 r [])
