@@ -1,4 +1,6 @@
 // What a decimal number reads as by the table of the powers of ten: one pattern at once, or one of those between two.
+#![tactic(auto)]
+
 ghost use Rattle.std.specs.Prelude.{◌+◌, ◌*◌, ◌^◌, ◌≤◌, ◌<◌};
 ghost use Rattle.rules.specs.Width.{Width};
 ghost use Rattle.rules.specs.Reading.{nearest};
@@ -9,14 +11,14 @@ ghost use Rattle.bounds.specs.Around.{Opens, Raised, Bounds, Apart, AtOnce, Arou
 use closest::Target;
 
 // A number reads as one of the patterns from `least` to `most`.
-#[derive(Drop)]
+#[derive(Clone, Copy)]
 pub struct Ends {
     pub least: u64,
     pub most: u64,
 }
 
 // The upper half of a product of digits and a power of ten, and its binary exponent with 1200 added.
-#[derive(Drop)]
+#[derive(Clone, Copy)]
 pub struct Product {
     pub upper: u64,
     pub exponent: u32,

@@ -1,4 +1,6 @@
 // Rounding to the nearest pattern of a width, whose numbers are given.
+#![tactic(auto)]
+
 ghost use Rattle.std.specs.Prelude.{◌≡◌, ◌*◌, ◌^◌, ◌≤◌, ◌<◌};
 ghost use Rattle.std.specs.Float.Ieee.Nearest.{closest};
 ghost use Rattle.rules.specs.Width.{Width, w32, w64};
@@ -6,7 +8,7 @@ ghost use Rattle.rules.specs.Reading.{nearest};
 ghost use Rattle.closest.specs.Targets.{Targets, Sized};
 
 // The numbers of a width: the bits of its significand, 1200 less the power of two of its unit, and an exponent field of ones.
-#[derive(Drop)]
+#[derive(Clone, Copy)]
 pub struct Target {
     pub fraction: u32,
     pub base: u32,

@@ -1,10 +1,12 @@
 // The decimal digits of a scaled magnitude, into a lent buffer.
+#![tactic(auto)]
+
 ghost use Rattle.std.specs.Prelude.{length};
 ghost use Rattle.rules.specs.Digits.{first};
 ghost use Rattle.digits.specs.Digits.{given, Ready, ReadyAbove, EndedAbove, ReadyUnder, EndedUnder, Found, Generated};
 
 // A place at or above zero: how many digits stand, and what is left.
-#[derive(Drop)]
+#[derive(Clone, Copy)]
 struct Above {
     len: usize,
     kappa: usize,
@@ -35,7 +37,7 @@ fn places_above(h: u64, delta: u64, x: u32, buf: &mut [u8]) -> Above
 }
 
 // A place below zero: how many digits stand, how far below it is, and what is left.
-#[derive(Drop)]
+#[derive(Clone, Copy)]
 struct Under {
     len: usize,
     down: usize,
@@ -68,7 +70,7 @@ fn places_under(h: u64, delta: u64, x: u32, len: usize, buf: &mut [u8]) -> Under
 }
 
 // The first place that passes: how many digits stand, where it is, and what the falls go by.
-#[derive(Drop)]
+#[derive(Clone, Copy)]
 struct First {
     len: usize,
     place: i32,
@@ -113,7 +115,7 @@ fn first_place(h: u64, w: u64, delta: u64, x: u32, buf: &mut [u8]) -> First
 }
 
 // How many digits were written, and the place of the last.
-#[derive(Drop)]
+#[derive(Clone, Copy)]
 pub struct Digits {
     pub len: usize,
     pub place: i32,

@@ -9,21 +9,21 @@ ghost use Rattle.diyfp.specs.Pairs.{Stands, StandsIn, Becomes, Shiftable, Bounds
 ghost use Rattle.powers.specs.Powers.{Served, Cached};
 
 // The number f * 2^e, with 32 bits for f.
-#[derive(Drop)]
+#[derive(Clone, Copy)]
 pub struct DiyFp32 {
     pub f: u32,
     pub e: i32,
 }
 
 // The lower and the upper boundary of a magnitude, at one exponent.
-#[derive(Drop)]
+#[derive(Clone, Copy)]
 pub struct Boundaries32 {
     pub minus: DiyFp32,
     pub plus: DiyFp32,
 }
 
 // A power of ten, 10^-k.
-#[derive(Drop)]
+#[derive(Clone, Copy)]
 pub struct CachedPower32 {
     pub power: DiyFp32,
     pub k: i32,

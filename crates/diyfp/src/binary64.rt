@@ -9,21 +9,21 @@ ghost use Rattle.diyfp.specs.Pairs.{Stands, StandsIn, Becomes, Shiftable, Bounds
 ghost use Rattle.powers.specs.Powers.{Served, Cached};
 
 // The number f * 2^e, with 64 bits for f.
-#[derive(Drop)]
+#[derive(Clone, Copy)]
 pub struct DiyFp64 {
     pub f: u64,
     pub e: i32,
 }
 
 // The lower and the upper boundary of a magnitude, at one exponent.
-#[derive(Drop)]
+#[derive(Clone, Copy)]
 pub struct Boundaries64 {
     pub minus: DiyFp64,
     pub plus: DiyFp64,
 }
 
 // A power of ten, 10^-k.
-#[derive(Drop)]
+#[derive(Clone, Copy)]
 pub struct CachedPower64 {
     pub power: DiyFp64,
     pub k: i32,

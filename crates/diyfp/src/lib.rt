@@ -1,4 +1,6 @@
 // Pairs of a significand and a binary exponent, f * 2^e, with 32 and with 64 bits for f, and the cached power of ten that scales them.
+#![tactic(auto)]
+
 pub mod binary32;
 pub mod binary64;
 

@@ -1,11 +1,13 @@
 // Floats as text: 32- and 64-bit patterns printed into a lent buffer, one in a call or a row of them, as the Rust crate dtoa prints each.
+#![tactic(auto)]
+
 ghost use Rattle.rules.specs.Width.{w32, w64};
 ghost use Rattle.rules.specs.Answer.{every, finite_only};
 ghost use Rattle.dtoa.specs.Meets.{Meets};
 ghost use Rattle.dtoa.specs.MeetsRow.{MeetsRow};
 
 // How a call ended: printed, with the length of the text; or refused, with the buffer as it was.
-#[derive(Drop)]
+#[derive(Clone, Copy)]
 pub enum Outcome {
     Printed(usize),
     TooShort,
@@ -13,7 +15,7 @@ pub enum Outcome {
 }
 
 // How the call for a row ended: printed, with the length of the row; or refused, with the buffer as it was.
-#[derive(Drop)]
+#[derive(Clone, Copy)]
 pub enum RowOutcome {
     Printed(usize),
     TooMany,

@@ -1,4 +1,6 @@
 // The C interface: each call of the printer as a function of C's, with its answer as two numbers.
+#![tactic(auto)]
+
 ghost use Rattle.std.specs.Prelude.{◌≡◌, ◌≤◌};
 ghost use Rattle.rules.specs.Width.{w32, w64};
 ghost use Rattle.rules.specs.Answer.{every, finite_only};
@@ -12,7 +14,7 @@ pub mod rows;
 
 // An answer: 0 and the length of the text, or the number of a refusal and 0.
 #[repr(C)]
-#[derive(Drop)]
+#[derive(Clone, Copy)]
 pub struct DtoaPrinted {
     pub number: u32,
     pub length: u32,

@@ -7,7 +7,7 @@ use reader::{Outcome32, Outcome64};
 
 // An answer of 32 bits: the pattern and 0, or 0 and the number of a refusal.
 #[repr(C)]
-#[derive(Drop)]
+#[derive(Clone, Copy)]
 pub struct DtoaRead32 {
     pub pattern: u32,
     pub number: u32,
@@ -15,7 +15,7 @@ pub struct DtoaRead32 {
 
 // An answer of 64 bits.
 #[repr(C)]
-#[derive(Drop)]
+#[derive(Clone, Copy)]
 pub struct DtoaRead64 {
     pub pattern: u64,
     pub number: u32,

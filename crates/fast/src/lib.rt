@@ -1,4 +1,6 @@
 // The quick way of reading: one multiplication or division by an exact power of ten, rounded once.
+#![tactic(auto)]
+
 ghost use Rattle.std.specs.Prelude.{false, ◌≡◌, ℕ, ◌+◌, ◌*◌, ◌^◌, ◌≤◌};
 ghost use Rattle.std.specs.Float.Ieee.Exact.{HasValue};
 ghost use Rattle.rules.specs.Reading.{nearest};
@@ -6,14 +8,14 @@ ghost use Rattle.rules.specs.Width.{w64};
 ghost use Rattle.fast.specs.Quick.{Trims, Finds};
 
 // A pattern, or none where the digits or the power are not exact.
-#[derive(Drop)]
+#[derive(Clone, Copy)]
 pub enum Quick {
     Pattern(u64),
     None,
 }
 
 // Digits, and the place of the last of them.
-#[derive(Drop)]
+#[derive(Clone, Copy)]
 pub struct Trimmed {
     pub digits: u64,
     pub place: u32,

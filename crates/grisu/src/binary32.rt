@@ -9,7 +9,7 @@ use crate::Decimal;
 use diyfp::DiyFp32;
 
 // The scaled numbers of a magnitude: H, W, D and x, and the decimal exponent that their power starts from.
-#[derive(Drop)]
+#[derive(Clone, Copy)]
 struct Scaled32 {
     h: u32,
     w: u32,

@@ -9,7 +9,7 @@ use crate::Decimal;
 use diyfp::DiyFp64;
 
 // The scaled numbers of a magnitude: H, W, D and x, and the decimal exponent that their power starts from.
-#[derive(Drop)]
+#[derive(Clone, Copy)]
 struct Scaled64 {
     h: u64,
     w: u64,

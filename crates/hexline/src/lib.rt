@@ -1,9 +1,11 @@
 // A line of hex digits as a pattern.
+#![tactic(auto)]
+
 ghost use Rattle.std.specs.Prelude.{true, false, ◌≡◌, ◌+◌, ◌*◌, ◌^◌, ◌≤◌, ◌<◌, length};
 ghost use Rattle.hexline.specs.Hex.{digit, all_digits, value_from, pattern_of};
 
 // What a line says: a pattern of 32 bits, one of 64, or neither.
-#[derive(Drop)]
+#[derive(Clone, Copy)]
 pub enum Pattern {
     Single(u32),
     Double(u64),

@@ -1,1 +1,2 @@
 // No code: the laws that the toolchain's library lacks, in proofs/.
+#![tactic(auto)]

@@ -1,4 +1,6 @@
 // The layout of digits and an exponent, in the lent buffer that holds the digits.
+#![tactic(auto)]
+
 ghost use Rattle.std.specs.Prelude.{◌≡◌, ◌∷◌, ◌++◌, ◌+◌, ◌≤◌, ◌<◌, nat_abs, pos, length, take, drop};
 ghost use Rattle.std.proofs.Math.IntN.{sub_ℕ};
 ghost use Rattle.laws.specs.Puts.{Puts};

@@ -1,4 +1,6 @@
 // Whole numbers of many digits, as limbs of 32 bits, the lowest first, and how two of them are ordered.
+#![tactic(auto)]
+
 ghost use Rattle.std.specs.Prelude.{◌≡◌, ◌+◌, ◌-◌, ◌*◌, ◌/◌, ◌^◌, ◌<◌, ◌≤◌, length, drop};
 ghost use Rattle.scan.specs.Mantissa.{mantissa};
 ghost use Rattle.limbs.specs.Total.{total, room, Becomes, Fits, Sides};
@@ -6,7 +8,7 @@ ghost use Rattle.limbs.specs.Stands.{Stands};
 ghost use Rattle.limbs.specs.Chunked.{Ends, Chunked};
 
 // How a number stands to another.
-#[derive(Drop)]
+#[derive(Clone, Copy)]
 pub enum Order {
     Below,
     Equal,
@@ -94,7 +96,7 @@ fn ends(text: &[u8], i: usize) -> bool
 const FULL: u32 = 400000000;
 
 // Some digits of a text as a number, 10 to the power of how many they are, and the place behind them.
-#[derive(Drop)]
+#[derive(Clone, Copy)]
 struct Chunk {
     number: u32,
     power: u32,

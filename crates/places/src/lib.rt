@@ -1,4 +1,6 @@
 // The arithmetic of decimal places: how many digits a number has, its parts, and how far its last digit falls.
+#![tactic(auto)]
+
 ghost use Rattle.std.specs.Prelude.{◌≡◌, ◌+◌, ◌*◌, ◌%◌, ◌^◌, ◌≤◌, ◌<◌};
 ghost use Rattle.rules.specs.Digits.{falls, closer as isCloser};
 ghost use Rattle.places.specs.Places.{count_to_nine, measure, SplitAt, distance_under};
@@ -47,7 +49,7 @@ pub fn pow10(kappa: usize) -> u64
 }
 
 // A number without its last digits, and those.
-#[derive(Drop)]
+#[derive(Clone, Copy)]
 pub struct Split {
     pub front: u32,
     pub back: u32,

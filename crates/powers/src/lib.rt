@@ -1,4 +1,6 @@
 // The cached powers of ten: which of them an exponent asks for, and of entry i the significand and the binary exponent.
+#![tactic(auto)]
+
 ghost use Rattle.std.specs.Prelude.{◌≡◌, ℕ, ◌<◌, pos, nat_abs, ◌+ℤ◌, get_or};
 ghost use Rattle.std.proofs.Math.IntN.{sub_ℕ};
 ghost use Rattle.std.specs.Int.Signed.{shr_z};

@@ -1,4 +1,6 @@
 // Prints the text of each pattern that standard input lists, one to a line: 8 hex digits for 32 bits, 16 for 64.
+#![tactic(auto)]
+
 ghost use Rattle.io.specs.Counts.{IsPrefixLen};
 
 use dtoa::Outcome;
@@ -6,7 +8,7 @@ use hexline::Pattern;
 use libc::{STDERR_FILENO, STDIN_FILENO, STDOUT_FILENO};
 
 // Where in the input we are: the number of the line, and how many of its bytes are kept.
-#[derive(Drop)]
+#[derive(Clone, Copy)]
 struct Cursor {
     number: u64,
     len: usize,
@@ -93,7 +95,7 @@ fn next_number(number: u64) -> u64 {
 }
 
 // Where a run over some bytes ended, and whether to go on.
-#[derive(Drop)]
+#[derive(Clone, Copy)]
 struct Step {
     at: Cursor,
     goes_on: bool,

@@ -1,4 +1,6 @@
 // Bytes put into a lent buffer.
+#![tactic(auto)]
+
 ghost use Rattle.std.specs.Prelude.{[], ◌∷◌, ◌+◌, ◌≤◌, ◌<◌, length};
 ghost use Rattle.std.proofs.Math.Seq.{slice};
 ghost use Rattle.laws.specs.Puts.{Puts};

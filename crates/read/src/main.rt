@@ -1,11 +1,13 @@
 // Reads each text that standard input lists, one to a line, and writes its patterns of 32 and of 64 bits in hex.
+#![tactic(auto)]
+
 ghost use Rattle.io.specs.Counts.{IsPrefixLen};
 
 use libc::{STDERR_FILENO, STDIN_FILENO, STDOUT_FILENO};
 use reader::{Outcome32, Outcome64};
 
 // Where in the input we are: the number of the line, and how many of its bytes are kept.
-#[derive(Drop)]
+#[derive(Clone, Copy)]
 struct Cursor {
     number: u64,
     len: usize,
@@ -115,7 +117,7 @@ fn next_number(number: u64) -> u64 {
 }
 
 // Where a run over some bytes ended, and whether to go on.
-#[derive(Drop)]
+#[derive(Clone, Copy)]
 struct Step {
     at: Cursor,
     goes_on: bool,

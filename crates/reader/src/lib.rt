@@ -1,4 +1,6 @@
 // Reading a text as the nearest pattern of binary32 or binary64.
+#![tactic(auto)]
+
 ghost use Rattle.std.specs.Prelude.{◌≡◌, ◌^◌, ◌≤◌, ◌<◌, length};
 ghost use Rattle.rules.specs.Width.{Width, w32, w64};
 ghost use Rattle.rules.specs.Reading.{infinity, with_sign};
@@ -17,7 +19,7 @@ use fast::Quick;
 use scan::Scanned;
 
 // How reading as binary32 ended: with a pattern, or refused by the text's length or its form.
-#[derive(Drop)]
+#[derive(Clone, Copy)]
 pub enum Outcome32 {
     Pattern(u32),
     WrongLength,
@@ -25,7 +27,7 @@ pub enum Outcome32 {
 }
 
 // How reading as binary64 ended.
-#[derive(Drop)]
+#[derive(Clone, Copy)]
 pub enum Outcome64 {
     Pattern(u64),
     WrongLength,

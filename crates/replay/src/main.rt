@@ -1,4 +1,6 @@
 // Prints each pattern of a stored list, and holds length, text and untouched bytes against what the crate printed for it.
+#![tactic(auto)]
+
 ghost use Rattle.io.specs.Counts.{IsPrefixLen};
 
 use dtoa::Outcome;
@@ -125,7 +127,7 @@ fn report(line: &[u8]) {
 }
 
 // How many lines were compared, and how many of them differ.
-#[derive(Drop)]
+#[derive(Clone, Copy)]
 struct Tally {
     lines: u32,
     differences: u32,

@@ -1,4 +1,6 @@
 // The texts of several patterns, put into a buffer with room for them.
+#![tactic(auto)]
+
 ghost use Rattle.std.specs.Prelude.{◌*◌, ◌≤◌, length};
 ghost use Rattle.laws.specs.Puts.{Puts};
 ghost use Rattle.rules.specs.Width.{w32};

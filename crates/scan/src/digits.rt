@@ -8,7 +8,7 @@ ghost use Rattle.scan.specs.Spells.{Joins, Spells};
 ghost use Rattle.scan.specs.Goes.{Keeps, no_digits, Goes, Reaches};
 
 // What is kept of digits.
-#[derive(Drop)]
+#[derive(Clone, Copy)]
 pub struct Held {
     pub digits: u64,
     pub dropped: u32,
@@ -16,7 +16,7 @@ pub struct Held {
 }
 
 // The place behind digits, and what is kept of them.
-#[derive(Drop)]
+#[derive(Clone, Copy)]
 pub struct Run {
     pub at: usize,
     pub held: Held,

@@ -7,7 +7,7 @@ ghost use Rattle.scan.specs.Heads.{starts, begins};
 use crate::digits;
 
 // A sign, and the place behind it.
-#[derive(Drop)]
+#[derive(Clone, Copy)]
 pub struct Signed {
     pub negative: bool,
     pub from: usize,

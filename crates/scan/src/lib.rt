@@ -1,4 +1,6 @@
 // From the bytes of a text to its sign, its first digits and its power of ten.
+#![tactic(auto)]
+
 ghost use Rattle.std.specs.Prelude.{◌≡◌, ℕ, ◌<◌, ◌≤◌, true, false, length, drop};
 ghost use Rattle.rules.specs.Reading.{unsigned, decimals_more};
 ghost use Rattle.scan.specs.Mantissa.{mantissa};
@@ -16,7 +18,7 @@ use heads::Signed;
 
 // A number: its sign, its first 19 digits at most, how many follow that are not kept, whether one of those is not 0,
 // and the power of ten of the last digit that is kept, 10,100 added.
-#[derive(Drop)]
+#[derive(Clone, Copy)]
 pub struct Decimal {
     pub negative: bool,
     pub digits: u64,
@@ -26,7 +28,7 @@ pub struct Decimal {
 }
 
 // What a text says.
-#[derive(Drop)]
+#[derive(Clone, Copy)]
 pub enum Scanned {
     Refused,
     NotANumber,

@@ -1,4 +1,6 @@
 // Which of the patterns from one to another a decimal number reads as, by exact comparison with the midpoints between them.
+#![tactic(auto)]
+
 ghost use Rattle.std.specs.Prelude.{◌≡◌, ◌+◌, ◌*◌, ◌%◌, ◌^◌, ◌≤◌, ◌<◌, length, drop};
 ghost use Rattle.scan.specs.Mantissa.{mantissa};
 ghost use Rattle.closest.specs.Targets.{Sized};
@@ -8,7 +10,7 @@ use closest::Target;
 use limbs::Order;
 
 // The midpoint between a pattern and the next one, twice: m * 2^twos units.
-#[derive(Drop)]
+#[derive(Clone, Copy)]
 pub struct Midpoint {
     pub m: u64,
     pub twos: u32,

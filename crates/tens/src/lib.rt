@@ -1,4 +1,6 @@
 // Powers of ten by their leading 64 bits, and the upper half of a product.
+#![tactic(auto)]
+
 ghost use Rattle.std.specs.Prelude.{◌≡◌, ◌*◌, ◌/◌, ◌^◌, ◌<◌};
 ghost use Rattle.tens.specs.Leading.{exponent, Leading};
 

@@ -3,7 +3,7 @@ ghost use Rattle.std.specs.Prelude.{◌*◌, ◌<◌};
 ghost use Rattle.tens.specs.Leading.{Fours};
 
 // Four entries of the table, one behind the other.
-#[derive(Drop)]
+#[derive(Clone, Copy)]
 pub struct Four(pub u64, pub u64, pub u64, pub u64);
 
 // The leading 64 bits of 10^(4 * k - 342) and of the three powers behind it. Four to an arm are read by four loads and no branch.

@@ -1,4 +1,6 @@
 // The text of a pattern, put into a buffer with room for it.
+#![tactic(auto)]
+
 ghost use Rattle.std.specs.Prelude.{not, [], ◌∷◌, ◌+◌, ◌<◌, ◌≤◌, T, length};
 ghost use Rattle.laws.specs.Puts.{Puts};
 ghost use Rattle.rules.specs.Width.{w32, w64};

@@ -11,7 +11,7 @@ use Rattle.rules.specs.Bytes.{bytes, minus}
 use Rattle.rules.specs.Width.{Width}
 use Rattle.rules.specs.Pattern.{negative, biased, significand, all_ones, special}
 use Rattle.rules.specs.Text.{signed, text}
-use Rattle.rules.specs.Reading.{infinite, number, same, magnitude_of, exact, infinity, with_sign}
+use Rattle.rules.specs.Reading.{infinite, same, magnitude_of, exact, infinity, with_sign}
 use Rattle.rules.specs.Reader.{Reading, answered, reading}
 use Rattle.theorems.proofs.Worth.{bare}
 use Rattle.theorems.proofs.Signs.{rejoined}

@@ -1,1 +1,2 @@
 // No code: what is proved of the rules alone, in proofs/.
+#![tactic(auto)]

@@ -1,0 +1,12 @@
+-- `fast::scaled` meets its contract: a quotient or a product is the same number. Assumes nothing.
+use mathlib.Core.Path.{◌∙◌}
+use Rattle.fast.proofs.Places.{as_quotient, as_product}
+use Rattle.fast.proofs.scaled.Goals as goal
+
+pub returns-then-place-lt-UNIT : goal.returns-then-place-lt-UNIT
+returns-then-place-lt-UNIT c =
+    λ up down at. c.over.ensures ∙ as_quotient c.args.digits c.args.place up down at c.if-place-lt-UNIT.true
+
+pub returns : goal.returns
+returns c =
+    λ up down at. c.times.ensures ∙ as_product c.args.digits c.args.place up down at c.if-place-lt-UNIT.false
