@@ -23,8 +23,8 @@ pub struct DtoaPrinted {
 // An outcome as its number and its length.
 fn answered(o: Outcome) -> DtoaPrinted
     requires { (told o).len ≤ 25 }
-    ensures fact_1 { result.number ≡ (told o).number }
-    ensures fact_2 { result.length ≡ (told o).len }
+    ensures number { result.number ≡ (told o).number }
+    ensures length { result.length ≡ (told o).len }
 {
     match o {
         Outcome::Printed(n) => DtoaPrinted {

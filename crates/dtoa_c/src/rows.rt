@@ -11,8 +11,8 @@ use dtoa::RowOutcome;
 // An outcome as its number and its length.
 fn answered_row(o: RowOutcome) -> DtoaPrinted
     requires { (row_told o).len ≤ row_room * row_limit }
-    ensures fact_1 { result.number ≡ (row_told o).number }
-    ensures fact_2 { result.length ≡ (row_told o).len }
+    ensures number { result.number ≡ (row_told o).number }
+    ensures length { result.length ≡ (row_told o).len }
 {
     match o {
         RowOutcome::Printed(n) => DtoaPrinted {

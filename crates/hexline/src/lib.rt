@@ -54,7 +54,7 @@ fn is_hex(line: &[u8]) -> bool
 // The number that up to 16 hex digits make.
 fn hex_value(line: &[u8]) -> u64
     requires line_len_bound { length line.now ≤ 16 }
-    requires line_value { all_digits line.now ≡ true }
+    requires all_hex { all_digits line.now ≡ true }
     ensures { (result ≡ value_from 0 line.now) × (result < 16 ^ length line.now) }
 {
     let mut v: u64 = 0;

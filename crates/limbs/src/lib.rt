@@ -60,7 +60,7 @@ fn times_fives(a: &mut [u32], n: u32)
 // a * 5^fives * 2^twos, of fewer twos than a limb has.
 fn scale(a: &mut [u32], fives: u32, twos: u32)
     requires twos_bound { twos < 32 }
-    requires twos_bound_2 { total a.old * 5 ^ fives * 2 ^ twos < room a.old }
+    requires product_fits { total a.old * 5 ^ fives * 2 ^ twos < room a.old }
     ensures { Becomes a.old a.new (total a.old * 5 ^ fives * 2 ^ twos) }
 {
     times_fives(a, fives);
@@ -69,7 +69,7 @@ fn scale(a: &mut [u32], fives: u32, twos: u32)
 
 // The number m, into limbs that are all 0.
 fn load(a: &mut [u32], m: u64)
-    requires a_value { total a.old ≡ 0 }
+    requires is_zero { total a.old ≡ 0 }
     requires in_bounds { 2 ≤ length a.old }
     ensures { Becomes a.old a.new m }
 {

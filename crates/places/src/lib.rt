@@ -108,7 +108,7 @@ pub fn low_bits(v: u64, x: u32) -> u64
 // v times 2^x.
 pub fn shifted(v: u64, x: u32) -> u64
     requires x_bound { x ≤ 60 }
-    requires x_bound_2 { v * 2 ^ x < 2 ^ 64 }
+    requires shifted_fits { v * 2 ^ x < 2 ^ 64 }
     ensures { result ≡ v * 2 ^ x }
 {
     v << x

@@ -45,7 +45,7 @@ fn put_name(negative: bool, infinite: bool, buf: &mut [u8]) -> usize
 
 // Puts the text of a finite magnitude, and answers its length.
 fn magnitude32(bits: u32, buf: &mut [u8]) -> usize
-    requires t { T (not (special w32 bits)) }
+    requires finite { T (not (special w32 bits)) }
     requires in_bounds { 24 ≤ length buf.old }
     ensures { Puts (shown w32 (magnitude w32 bits)) buf.old 0 buf.new result }
 {
@@ -58,7 +58,7 @@ fn magnitude32(bits: u32, buf: &mut [u8]) -> usize
 
 // Puts the text of a finite magnitude, and answers its length.
 fn magnitude64(bits: u64, buf: &mut [u8]) -> usize
-    requires t { T (not (special w64 bits)) }
+    requires finite { T (not (special w64 bits)) }
     requires in_bounds { 24 ≤ length buf.old }
     ensures { Puts (shown w64 (magnitude w64 bits)) buf.old 0 buf.new result }
 {
