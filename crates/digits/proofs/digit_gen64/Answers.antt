@@ -1,0 +1,29 @@
+-- `digits::digit_gen64` meets its contract. Assumes nothing.
+use native.Mathlib.Omega.{arith}
+use mir.Facts.{to_z-of_z}
+use mir.Syntax.{w32}
+use mir.Val.{SFits}
+use Rattle.digits.proofs.FirstPlace.{within_room, few_units, some_digit, below_byte, generated}
+use borrow.Author.Rules.{rules}
+use Rattle.digits.proofs.digit_gen64.Goals as goal
+use Rattle.digits.proofs.digit_gen64.Goals.{After-first_place-f}
+
+-- Where the first place is found.
+abbrev Found : Type 0
+Found = After-first_place-f
+
+pub grisu_round-fallen-requires : goal.grisu_round-fallen-requires
+grisu_round-fallen-requires c =
+    record { rest_le_room = within_room c.requires c.first_place-f.ensures; room_bound = few_units c.requires c.first_place-f.ensures }
+
+pub overflow_sub-last : goal.overflow_sub-last
+overflow_sub-last c = some_digit c.requires c.first_place-f.ensures
+
+pub overflow_sub-buf : goal.overflow_sub-buf
+overflow_sub-buf c =
+    below_byte c.requires c.first_place-f.ensures c.grisu_round-fallen.ensures
+
+pub returns : goal.returns
+returns c =
+    let held : SFits w32 c.first_place-f.result.place = omega arith in
+    rw (to_z-of_z held) (generated c.requires c.first_place-f.ensures c.grisu_round-fallen.ensures)

@@ -1,0 +1,12 @@
+-- `limbs::compare` meets its contract: the limbs passed are the same. Assumes nothing.
+use mathlib.Core.Path.{◌≡◌, sym}
+use native.Mathlib.Omega.{arith}
+use lib.ListN.{length}
+use Rattle.limbs.proofs.Ordered.{Alike, begin, step, turned, less, equal}
+use Rattle.limbs.proofs.compare.Given as goal
+
+abbrev pub invariant-loop-i : goal.invariant-loop-i
+invariant-loop-i l = Alike l.a l.b l.i
+
+abbrev pub decreases-loop-i : goal.decreases-loop-i
+decreases-loop-i l = l.i
