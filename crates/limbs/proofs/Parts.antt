@@ -40,6 +40,7 @@ split l k within =
 -- A product is 0 only where a factor is.
 no_factor : (w x : ℕ) → 0 < w → w * x ≡ 0 → x ≡ 0
 no_factor w zero some e = refl
+no_factor zero (suc x) some e = elim some [ ]
 no_factor (suc w) (suc x) some e = absurd (omega (arith, suc-mul w (suc x)))
 
 -- Limbs that stand for 0 do so in both parts.

@@ -2,8 +2,7 @@
 use mathlib.Core.Path.{refl, sym}
 use Prim.Native.Nat.{◌+◌, ◌-◌, ◌*◌, ◌/◌}
 use native.Mathlib.Omega.{arith}
-use lib.ListN.{length}
-use lib.Seq.{length-take-le}
+use lib.ListN.{length, length-take}
 use Rattle.limbs.proofs.Digits.{digits_width}
 use Rattle.limbs.proofs.Standing.{with_twos}
 use Rattle.limbs.proofs.Width.{ready}
@@ -16,7 +15,7 @@ settled-requires c =
       c.requires.0,
       record {
         alike = refl;
-        word = rw (sym (slice-aggregate-settled-2 c)) (omega arith);
+        word = simp length-take (omega arith);
         left = ready 112 used _ wide _ _ (omega arith) (digits_width c.args.text.now c.args.from) (omega arith);
         right = ready 112 used c.args.m 64 _ _ (omega arith) (omega arith) (omega arith);
       },

@@ -5,9 +5,10 @@ use native.Mathlib.Numerals.{add-one}
 use lib.ListN.{get_or, length}
 use Rattle.limbs.proofs.Product.{Done, begin, step, fits, finished}
 use Rattle.limbs.proofs.mul_add.Goals as goal
+use Rattle.limbs.proofs.mul_add.Goals.{After-slice_known-1}
 
 abbrev Place : Type 0
-Place = goal.After-slice_known-1
+Place = After-slice_known-1
 
 limb : (c : Place) → get_or c.loop-i.a c.loop-i.i 0 < 2 ^ 32
 limb c = omega (arith, c.slice_known-1.given c.loop-i.i)

@@ -19,4 +19,4 @@ times_fives-requires c = without _ _ _ (pow_pos c.args.twos) c.requires.product_
 pub mul_add-requires : goal.mul_add-requires
 mul_add-requires c =
     let g = c.times_fives in
-    rw (one_shifted c.args.twos c.requires.twos_bound, g.ensures.is, add-zero, same-room g.new.0 c.args.a.now g.ensures.same) c.requires.product_fits
+    rw (one_shifted c.args.twos c.requires.twos_bound, g.ensures.is, add-zero, same-room g.new.a c.args.a.now g.ensures.same) c.requires.product_fits

@@ -17,7 +17,7 @@ put_number-requires c =
 
 pub returns : goal.returns
 returns c =
-    let sides = c.before.before.requires.1 in
-    let digits = c.put-digits.ensures in
-    let number = c.put-number.ensures in
+    let sides = c.requires.1 in
+    let digits = c.put_digits.ensures in
+    let number = c.put_number.ensures in
     same c.compare.result (raised sides.left digits).is (raised sides.right number).is c.compare.ensures
