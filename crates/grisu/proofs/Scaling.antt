@@ -21,7 +21,7 @@ use Rattle.theorems.proofs.Boundaries.{Finite, one_exponent, exponent_most}
 use Rattle.theorems.proofs.Power.{reach}
 use Rattle.theorems.proofs.Scale.{Scales, finite_scales}
 use Rattle.theorems.proofs.Widths.{Sound}
-use Rattle.diyfp.specs.Pairs.{Stands, StandsIn, Shiftable, Near, Times}
+use Rattle.diyfp.specs.Pairs.{Stands, StandsIn, Shiftable, Becomes, Bounds, Near, Times}
 use Rattle.powers.specs.Powers.{Served, Cached}
 use Rattle.powers.proofs.Small.{Small}
 use Rattle.grisu.specs.Grisu.{ScaledTo}
@@ -109,6 +109,14 @@ module _ {w : Width} {q : ℕ} (sound : Sound w q) (small : Small w) {m : Pair} 
             };
         power = cached.decimal;
       }
+
+  -- The same from what the calls that make the factors say.
+  pub made : {f pf mf vf cf hf lf wf : ℕ} {e pe me ve ce k he le we : ℤ} → Stands w m f e → Bounds w f e mf me pf pe →
+      Becomes w (value w) f e vf ve → ((n : ℕ) → read pe ≡ sub_ℕ n (off w) → Cached w n cf ce k) →
+      Times w pf pe cf ce hf he → Times w mf me cf ce lf le → Times w vf ve cf ce wf we → Products hf lf wf he k
+  made stands bounds values caches high low mid =
+      let plus = bounds.plus _ stands in
+      products plus (bounds.minus _ stands) (values _ stands) (caches _ (upper_read plus)) high low mid
 
   module _ {hf lf wf : ℕ} {he k : ℤ} (p : Products hf lf wf he k) where
     high_is : hf - 1 ≡ (scaled w m).H
