@@ -3,12 +3,8 @@ use mathlib.Core.Path.{◌∙◌}
 use Rattle.rules.specs.Width.{w64}
 use Rattle.theorems.proofs.Readable.{readable64}
 use Rattle.text.proofs.Masks.{masked, magnitude_zero}
-use Rattle.text.proofs.bits.is_zero64.Statement.{statement}
-use Rattle.text.proofs.bits.is_zero64.Tie as tie
+use Rattle.text.proofs.bits.is_zero64.Goals as goal
 
-returns : tie.Need-returns
+pub returns : goal.returns
 unfolding w64
 returns c = masked c.args.bits 63 0 ∙ magnitude_zero w64 readable64 c.args.bits
-
-pub is-zero64-spec : {M : Type 1} → statement M
-is-zero64-spec = tie.close (tie.spec returns)

@@ -3,12 +3,8 @@ use Rattle.rules.specs.Width.{w32}
 use Rattle.rules.specs.Pattern.{biased, all_ones, special}
 use Prim.Native.Nat.{◌/◌, ◌^◌}
 use Rattle.text.proofs.Masks.{masked}
-use Rattle.text.proofs.bits.is_special32.Statement.{statement}
-use Rattle.text.proofs.bits.is_special32.Tie as tie
+use Rattle.text.proofs.bits.is_special32.Goals as goal
 
-returns : tie.Need-returns
+pub returns : goal.returns
 unfolding w32 special biased all_ones
 returns c = masked (c.args.bits / 2 ^ 23) 8 255
-
-pub is-special32-spec : {M : Type 1} → statement M
-is-special32-spec = tie.close (tie.spec returns)

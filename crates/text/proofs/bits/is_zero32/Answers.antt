@@ -3,12 +3,8 @@ use mathlib.Core.Path.{◌∙◌}
 use Rattle.rules.specs.Width.{w32}
 use Rattle.theorems.proofs.Readable.{readable32}
 use Rattle.text.proofs.Masks.{masked, magnitude_zero}
-use Rattle.text.proofs.bits.is_zero32.Statement.{statement}
-use Rattle.text.proofs.bits.is_zero32.Tie as tie
+use Rattle.text.proofs.bits.is_zero32.Goals as goal
 
-returns : tie.Need-returns
+pub returns : goal.returns
 unfolding w32
 returns c = masked c.args.bits 31 0 ∙ magnitude_zero w32 readable32 c.args.bits
-
-pub is-zero32-spec : {M : Type 1} → statement M
-is-zero32-spec = tie.close (tie.spec returns)

@@ -3,12 +3,8 @@ use Rattle.rules.specs.Width.{w64}
 use Rattle.rules.specs.Pattern.{biased, all_ones, special}
 use Prim.Native.Nat.{◌/◌, ◌^◌}
 use Rattle.text.proofs.Masks.{masked}
-use Rattle.text.proofs.bits.is_special64.Statement.{statement}
-use Rattle.text.proofs.bits.is_special64.Tie as tie
+use Rattle.text.proofs.bits.is_special64.Goals as goal
 
-returns : tie.Need-returns
+pub returns : goal.returns
 unfolding w64 special biased all_ones
 returns c = masked (c.args.bits / 2 ^ 52) 11 2047
-
-pub is-special64-spec : {M : Type 1} → statement M
-is-special64-spec = tie.close (tie.spec returns)
