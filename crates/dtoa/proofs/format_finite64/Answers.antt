@@ -1,0 +1,21 @@
+-- `dtoa::format_finite64` meets its contract. Assumes nothing.
+use native.Mathlib.Omega.{arith}
+use Rattle.rules.specs.Width.{w64}
+use Rattle.rules.specs.Answer.{finite_only, refuses}
+use Rattle.dtoa.proofs.Outcomes.{too_short, not_finite, printed}
+use Rattle.text.proofs.Spelling.{found, found_not}
+use borrow.Author.Rules.{rules}
+use Rattle.dtoa.proofs.format_finite64.Goals as goal
+
+pub returns-then-buf-lt-ROOM : goal.returns-then-buf-lt-ROOM
+returns-then-buf-lt-ROOM c = too_short finite_only w64 _ _ (omega (arith, c.if-buf-lt-ROOM.true))
+
+pub returns-then-is_special64 : goal.returns-then-is_special64
+unfolding refuses
+returns-then-is_special64 c =
+    not_finite finite_only w64 _ _ c.if-buf-lt-ROOM.false (found c.is_special64.ensures c.if-is_special64.true)
+
+pub returns : goal.returns
+unfolding refuses
+returns c =
+    printed finite_only w64 _ _ c.if-buf-lt-ROOM.false (found_not c.is_special64.ensures c.if-is_special64.false) c.print64.ensures
