@@ -24,17 +24,17 @@ module _ (w : Width) (t : List ℕ) (some : 0 < length t) (few : length t ≤ 64
   unfolding answered
   nothing says = saying refused says
 
-  pub a-nan : exact t ≡ notANumber → (v : ℕ) → v ≡ quiet_nan w → Pattern v ≡ reading w t
+  pub a_nan : exact t ≡ notANumber → (v : ℕ) → v ≡ quiet_nan w → Pattern v ≡ reading w t
   unfolding answered
-  a-nan says v is = ap Pattern is ∙ saying notANumber says
+  a_nan says v is = ap Pattern is ∙ saying notANumber says
 
-  pub an-infinity : (s : Bool) → exact t ≡ infinite s → (v m : ℕ) → m ≡ infinity w → v ≡ with_sign w s m → Pattern v ≡ reading w t
+  pub an_infinity : (s : Bool) → exact t ≡ infinite s → (v m : ℕ) → m ≡ infinity w → v ≡ with_sign w s m → Pattern v ≡ reading w t
   unfolding answered
-  an-infinity s says v m top is = ap Pattern (is ∙ ap (with_sign w s) top) ∙ saying (infinite s) says
+  an_infinity s says v m top is = ap Pattern (is ∙ ap (with_sign w s) top) ∙ saying (infinite s) says
 
-  pub a-number : (x : Decimal) → Says t x → (v m : ℕ) → Reads w t x m → v ≡ with_sign w x.negative m → Pattern v ≡ reading w t
+  pub a_number : (x : Decimal) → Says t x → (v m : ℕ) → Reads w t x m → v ≡ with_sign w x.negative m → Pattern v ≡ reading w t
   unfolding answered
-  a-number x s v m reads is = ap Pattern (is ∙ ap (with_sign w x.negative) (reads s)) ∙ saying (number x.negative _ _) s.says
+  a_number x s v m reads is = ap Pattern (is ∙ ap (with_sign w x.negative) (reads s)) ∙ saying (number x.negative _ _) s.says
 
 -- A number reads as no pattern beyond the infinity.
 pub no_further : (w : Width) (t : List ℕ) (x : Decimal) (m : ℕ) → Says t x → Reads w t x m → m ≤ infinity w

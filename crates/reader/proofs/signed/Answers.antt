@@ -8,8 +8,7 @@ use Rattle.rules.specs.Width.{Width, w32, w64}
 use Rattle.rules.specs.Pattern.{all_ones}
 use Rattle.rules.specs.Reading.{infinity, with_sign}
 use Rattle.reader.specs.Widths.{width_of}
-use Rattle.reader.proofs.signed.Statement.{statement}
-use Rattle.reader.proofs.signed.Tie as tie
+use Rattle.reader.proofs.signed.Goals as goal
 
 -- A sign is a number to add.
 by-addition : (w : Width) (negative : Bool) (v : ℕ) → with_sign w negative 0 + v ≡ with_sign w negative v
@@ -25,19 +24,11 @@ in-64 true false v most = omega arith
 in-64 false true v most = omega arith
 in-64 false false v most = omega arith
 
-sign-bit-requires : tie.Need-sign-bit-requires
-sign-bit-requires c κs = search rules
-
-add-result : tie.Need-overflow-add-result
-add-result c =
-    let s = c.before in
-    let few = in-64 s.args.negative s.args.wide s.args.v s.requires in
+pub overflow_add-result : goal.overflow_add-result
+overflow_add-result c =
+    let few = in-64 c.args.negative c.args.wide c.args.v c.requires in
     rw c.sign_bit.ensures (omega (arith, few))
 
-returns : tie.Need-returns
+pub returns : goal.returns
 returns c =
-    let s = c.before in
-    rw c.sign_bit.ensures (by-addition (width_of s.args.wide) s.args.negative s.args.v)
-
-pub signed-spec : {M : Type 1} → statement M
-signed-spec = tie.close (tie.spec sign-bit-requires add-result returns)
+    rw c.sign_bit.ensures (by-addition (width_of c.args.wide) c.args.negative c.args.v)

@@ -1,0 +1,10 @@
+-- `dtoa_c::dtoa_format64` meets its contract. Assumes nothing.
+use Rattle.rules.specs.Width.{w64}
+use Rattle.rules.specs.Answer.{every}
+use Rattle.theorems.proofs.Printable.{printable64}
+use Rattle.dtoa_c.proofs.Answering.{length_held, exported}
+use borrow.Author.Rules.{rules}
+use Rattle.dtoa_c.proofs.dtoa_format64.Goals as goal
+
+pub answered-requires : goal.answered-requires
+answered-requires c = length_held every w64 _ _ _ printable64 _ c.format64.ensures

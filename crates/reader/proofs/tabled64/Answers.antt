@@ -1,0 +1,25 @@
+-- `reader::tabled64` meets its contract: at once, the quick way, or by comparison. Assumes nothing.
+use mathlib.Core.Path.{subst}
+use borrow.Author.Rules.{rules}
+use borrow.Author.Tests.{not-true}
+use Rattle.rules.specs.Width.{w64}
+use Rattle.fast.specs.Quick.{Finds}
+use Rattle.reader.specs.Reads.{decimal}
+use Rattle.reader.proofs.Extremes.{spanned64}
+use Rattle.reader.proofs.Magnitudes.{shown_at_once, found_quickly}
+use Rattle.reader.proofs.tabled64.Goals as goal
+
+pub returns-then-v-gt0 : goal.returns-then-v-gt0
+returns-then-v-gt0 c =
+    let x = decimal c.args.negative c.args.digits c.args.dropped c.args.more c.args.place in
+    shown_at_once w64 spanned64 c.args.text.now x _ c.binary64.ensures.0 _ _
+    (c.requires.3.tabled c.if-p-gt0.true) c.requires.3 _ c.if-v-gt0.true c.at_once-v.ensures
+
+pub returns-in-Pattern : goal.returns-in-Pattern
+returns-in-Pattern c =
+    let x = decimal c.args.negative c.args.digits c.args.dropped c.args.more c.args.place in
+    found_quickly c.args.text.now x _ c.if-not-more.true
+    (subst (Finds c.args.digits c.args.place) c.in-Pattern.is c.quickly-q.ensures)
+
+pub returns : goal.returns
+returns c = c.compared.ensures w64 spanned64 c.binary64-2.ensures.0
