@@ -1,11 +1,18 @@
 // Prints the text of each pattern that standard input lists, one to a line: 8 hex digits for 32 bits, 16 for 64.
 #![tactic(auto)]
 
-ghost use Rattle.io.specs.Counts.{IsPrefixLen};
+ghost use Rattle.std.specs.Prelude.{◌≤◌, length};
 
 use dtoa::Outcome;
 use hexline::Pattern;
-use libc::{STDERR_FILENO, STDIN_FILENO, STDOUT_FILENO};
+use std::io;
+use std::io::Read;
+
+// How many bytes of a line are kept, and how many there are for a text.
+const ROOM: usize = 4096;
+
+// The most bytes that one read takes.
+const CHUNK: usize = 65536;
 
 // Where in the input we are: the number of the line, and how many of its bytes are kept.
 #[derive(Clone, Copy)]
@@ -40,7 +47,7 @@ fn said(line: &[u8], len: usize) -> Pattern {
 
 // Puts a line end behind a printed text, and answers how many bytes both have; 0 where nothing was printed.
 fn with_line_end(o: Outcome, text: &mut [u8]) -> usize
-    ensures { IsPrefixLen result text.new }
+    ensures { result ≤ length text.new }
 {
     let Outcome::Printed(n) = o else {
         return 0;
@@ -52,37 +59,36 @@ fn with_line_end(o: Outcome, text: &mut [u8]) -> usize
     0
 }
 
-// Writes the text of a pattern of 32 bits, and answers whether that worked.
-fn print32(bits: u32) -> bool {
-    let mut text = io::buffer();
+// Writes the text of a pattern of 32 bits.
+fn print32(rt: &impl Print, bits: u32) -> io::Result<()> {
+    let mut text = [0u8; ROOM];
     let o = dtoa::format32(bits, &mut text);
     let n = with_line_end(o, &mut text);
-    io::write_all(STDOUT_FILENO, &text[..n])
+    rt.write_all(&text[..n])
 }
 
-// Writes the text of a pattern of 64 bits, and answers whether that worked.
-fn print64(bits: u64) -> bool {
-    let mut text = io::buffer();
+// Writes the text of a pattern of 64 bits.
+fn print64(rt: &impl Print, bits: u64) -> io::Result<()> {
+    let mut text = [0u8; ROOM];
     let o = dtoa::format64(bits, &mut text);
     let n = with_line_end(o, &mut text);
-    io::write_all(STDOUT_FILENO, &text[..n])
+    rt.write_all(&text[..n])
 }
 
-// Says on standard error that a line is no pattern.
-fn complain(number: u64) -> bool {
-    io::write_all(STDERR_FILENO, b"print: line ");
-    io::print_decimal(STDERR_FILENO, number);
-    io::write_all(STDERR_FILENO, b": neither 8 nor 16 hex digits\n");
-    true
+// Says on standard error that a line is no pattern. The run goes on where that cannot be written.
+fn complain(rt: &impl Eprint, number: u64) {
+    let _ = eprintln!(rt; "print: line {number}: neither 8 nor 16 hex digits");
 }
 
-// Prints what a whole line asks for, and answers whether to go on.
-fn finish(at: Cursor, line: &[u8]) -> bool {
-    let p = said(line, at.len);
-    match p {
-        Pattern::Single(bits) => print32(bits),
-        Pattern::Double(bits) => print64(bits),
-        Pattern::Neither => complain(at.number),
+// Prints what a whole line asks for.
+fn finish(rt: &(impl Print + Eprint), at: Cursor, line: &[u8]) -> io::Result<()> {
+    match said(line, at.len) {
+        Pattern::Single(bits) => print32(rt, bits),
+        Pattern::Double(bits) => print64(rt, bits),
+        Pattern::Neither => {
+            complain(rt, at.number);
+            Ok(())
+        }
     }
 }
 
@@ -94,85 +100,64 @@ fn next_number(number: u64) -> u64 {
     number
 }
 
-// Where a run over some bytes ended, and whether to go on.
-#[derive(Clone, Copy)]
-struct Step {
-    at: Cursor,
-    goes_on: bool,
-}
-
-// Takes one byte of the input.
-fn take(at: Cursor, b: u8, line: &mut [u8]) -> Step {
+// Takes one byte of the input, and answers where that leads.
+fn take(rt: &(impl Print + Eprint), at: Cursor, b: u8, line: &mut [u8]) -> io::Result<Cursor> {
     if b != b'\n' {
-        return Step {
-            at: with_byte(at, b, line),
-            goes_on: true,
-        };
+        return Ok(with_byte(at, b, line));
     }
-    let goes_on = finish(at, line);
-    Step {
-        at: Cursor {
-            number: next_number(at.number),
-            len: 0,
-        },
-        goes_on,
-    }
+    finish(rt, at, line)?;
+    Ok(Cursor {
+        number: next_number(at.number),
+        len: 0,
+    })
 }
 
 // Takes the bytes that one read brought, up to the first write that fails.
-fn take_all(at: Cursor, bytes: &[u8], line: &mut [u8]) -> Step {
+fn take_all(
+    rt: &(impl Print + Eprint),
+    at: Cursor,
+    bytes: &[u8],
+    line: &mut [u8],
+) -> io::Result<Cursor> {
     let mut now = at;
-    let mut i: usize = 0;
-    while i < bytes.len() {
-        let s = take(now, bytes[i], line);
-        now = s.at;
-        if !s.goes_on {
-            return Step {
-                at: now,
-                goes_on: false,
-            };
-        }
-        i += 1;
+    for b in bytes {
+        now = take(rt, now, *b, line)?;
     }
-    Step {
-        at: now,
-        goes_on: true,
-    }
+    Ok(now)
 }
 
-// Reads once and takes what came. A last line without a line end counts, if it is not empty.
-fn read_some(at: Cursor, line: &mut [u8]) -> Step {
-    let mut buf = io::large_buffer();
-    let got = libc::read(STDIN_FILENO, &mut buf);
-    if got < 0 {
-        os::fail(b"print");
-        return Step { at, goes_on: false };
-    }
-    if got == 0 {
+// Reads once and takes what came; `None` says that the input has ended. A last line without a line end counts, if it is not empty.
+fn read_some(
+    rt: &(impl Print + Eprint),
+    input: &mut impl Read,
+    at: Cursor,
+    line: &mut [u8],
+) -> io::Result<Option<Cursor>> {
+    let mut buf = [0u8; CHUNK];
+    let n = input.read(&mut buf)?;
+    if n == 0 {
         if 0 < at.len {
-            finish(at, line);
+            finish(rt, at, line)?;
         }
-        return Step { at, goes_on: false };
+        return Ok(None);
     }
-    let n = io::count(got, &buf);
-    take_all(at, &buf[..n], line)
+    Ok(Some(take_all(rt, at, &buf[..n], line)?))
 }
 
-// A proved loop has to end, and nothing says that an input does: the loop counts its turns down from a number that no run uses up.
-fn read_all(line: &mut [u8]) {
+// A proved loop has to end, and nothing says that an input does: the loop counts its turns, up to a number that no run reaches.
+fn read_all(rt: &(impl Input + Print + Eprint), line: &mut [u8]) -> io::Result<()> {
+    let mut input = rt.reader();
     let mut at = Cursor { number: 1, len: 0 };
-    let mut turns = u64::MAX;
-    while turns > 0 {
-        let s = read_some(at, line);
-        at = s.at;
-        if !s.goes_on {
-            return;
+    for _ in 0..u64::MAX {
+        match read_some(rt, &mut input, at, line)? {
+            Some(next) => at = next,
+            None => break,
         }
-        turns -= 1;
     }
+    Ok(())
 }
 
-fn main() {
-    let mut line = io::buffer();
-    read_all(&mut line);
+fn main(rt: HostRuntime) -> io::Result<()> {
+    let mut line = [0u8; ROOM];
+    read_all(&rt, &mut line)
 }

@@ -1,10 +1,17 @@
 // Reads each text that standard input lists, one to a line, and writes its patterns of 32 and of 64 bits in hex.
 #![tactic(auto)]
 
-ghost use Rattle.io.specs.Counts.{IsPrefixLen};
+ghost use Rattle.std.specs.Prelude.{◌≤◌, length};
 
-use libc::{STDERR_FILENO, STDIN_FILENO, STDOUT_FILENO};
 use reader::{Outcome32, Outcome64};
+use std::io;
+use std::io::Read;
+
+// How many bytes of a line are kept.
+const ROOM: usize = 4096;
+
+// The most bytes that one read takes.
+const CHUNK: usize = 65536;
 
 // Where in the input we are: the number of the line, and how many of its bytes are kept.
 #[derive(Clone, Copy)]
@@ -28,7 +35,7 @@ fn with_byte(at: Cursor, b: u8, line: &mut [u8]) -> Cursor {
 
 // How many bytes of a line are its text: a carriage return before the line end is none of them.
 fn text_length(line: &[u8], len: usize) -> usize
-    ensures { IsPrefixLen result line.now }
+    ensures { result ≤ length line.now }
 {
     if line.len() < len {
         return 0;
@@ -61,51 +68,46 @@ fn put(out: &mut [u8], at: usize, b: u8) {
 // Puts the last hex digits of a number, from one place up to another.
 fn put_hex(v: u64, from: usize, end: usize, out: &mut [u8]) {
     let mut left = v;
-    let mut i = end;
-    while from < i {
-        i -= 1;
+    for i in (from..end).rev() {
         put(out, i, hex_digit(left));
         left /= 16;
     }
 }
 
-// Writes two patterns, and answers whether that worked.
-fn show(single: u32, double: u64) -> bool {
+// Writes two patterns.
+fn show(rt: &impl Print, single: u32, double: u64) -> io::Result<()> {
     let mut out = [b' '; 26];
     put_hex(single as u64, 0, 8, &mut out);
     put_hex(double, 9, 25, &mut out);
     out[25] = b'\n';
-    io::write_all(STDOUT_FILENO, &out)
+    rt.write_all(&out)
 }
 
-// Says on standard error why a line is not read.
-fn complain(number: u64, why: &[u8]) -> bool {
-    io::write_all(STDERR_FILENO, b"read: line ");
-    io::print_decimal(STDERR_FILENO, number);
-    io::write_all(STDERR_FILENO, why);
-    true
+// Says on standard error why a line is not read. The run goes on where that cannot be written.
+fn complain(rt: &impl Eprint, number: u64, why: &str) {
+    let _ = eprintln!(rt; "read: line {number}: {why}");
 }
 
-// Reads a text at both widths, and answers whether to go on.
-fn read_text(number: u64, text: &[u8]) -> bool {
+// Reads a text at both widths.
+fn read_text(rt: &(impl Print + Eprint), number: u64, text: &[u8]) -> io::Result<()> {
     let single = reader::read32(text);
     let double = reader::read64(text);
     match double {
         Outcome64::Pattern(wide) => {
             if let Outcome32::Pattern(narrow) = single {
-                return show(narrow, wide);
+                show(rt, narrow, wide)?;
             }
-            true
         }
-        Outcome64::WrongLength => complain(number, b": not 1 to 64 bytes\n"),
-        Outcome64::WrongForm => complain(number, b": not a number\n"),
+        Outcome64::WrongLength => complain(rt, number, "not 1 to 64 bytes"),
+        Outcome64::WrongForm => complain(rt, number, "not a number"),
     }
+    Ok(())
 }
 
-// Reads what a whole line says, and answers whether to go on.
-fn finish(at: Cursor, line: &[u8]) -> bool {
+// Reads what a whole line says.
+fn finish(rt: &(impl Print + Eprint), at: Cursor, line: &[u8]) -> io::Result<()> {
     let n = text_length(line, at.len);
-    read_text(at.number, &line[..n])
+    read_text(rt, at.number, &line[..n])
 }
 
 // The number of the next line. No input has so many lines that it stops at the last.
@@ -116,85 +118,64 @@ fn next_number(number: u64) -> u64 {
     number
 }
 
-// Where a run over some bytes ended, and whether to go on.
-#[derive(Clone, Copy)]
-struct Step {
-    at: Cursor,
-    goes_on: bool,
-}
-
-// Takes one byte of the input.
-fn take(at: Cursor, b: u8, line: &mut [u8]) -> Step {
+// Takes one byte of the input, and answers where that leads.
+fn take(rt: &(impl Print + Eprint), at: Cursor, b: u8, line: &mut [u8]) -> io::Result<Cursor> {
     if b != b'\n' {
-        return Step {
-            at: with_byte(at, b, line),
-            goes_on: true,
-        };
+        return Ok(with_byte(at, b, line));
     }
-    let goes_on = finish(at, line);
-    Step {
-        at: Cursor {
-            number: next_number(at.number),
-            len: 0,
-        },
-        goes_on,
-    }
+    finish(rt, at, line)?;
+    Ok(Cursor {
+        number: next_number(at.number),
+        len: 0,
+    })
 }
 
 // Takes the bytes that one read brought, up to the first write that fails.
-fn take_all(at: Cursor, bytes: &[u8], line: &mut [u8]) -> Step {
+fn take_all(
+    rt: &(impl Print + Eprint),
+    at: Cursor,
+    bytes: &[u8],
+    line: &mut [u8],
+) -> io::Result<Cursor> {
     let mut now = at;
-    let mut i: usize = 0;
-    while i < bytes.len() {
-        let s = take(now, bytes[i], line);
-        now = s.at;
-        if !s.goes_on {
-            return Step {
-                at: now,
-                goes_on: false,
-            };
-        }
-        i += 1;
+    for b in bytes {
+        now = take(rt, now, *b, line)?;
     }
-    Step {
-        at: now,
-        goes_on: true,
-    }
+    Ok(now)
 }
 
-// Reads once and takes what came. A last line without a line end counts, if it is not empty.
-fn read_some(at: Cursor, line: &mut [u8]) -> Step {
-    let mut buf = io::large_buffer();
-    let got = libc::read(STDIN_FILENO, &mut buf);
-    if got < 0 {
-        os::fail(b"read");
-        return Step { at, goes_on: false };
-    }
-    if got == 0 {
+// Reads once and takes what came; `None` says that the input has ended. A last line without a line end counts, if it is not empty.
+fn read_some(
+    rt: &(impl Print + Eprint),
+    input: &mut impl Read,
+    at: Cursor,
+    line: &mut [u8],
+) -> io::Result<Option<Cursor>> {
+    let mut buf = [0u8; CHUNK];
+    let n = input.read(&mut buf)?;
+    if n == 0 {
         if 0 < at.len {
-            finish(at, line);
+            finish(rt, at, line)?;
         }
-        return Step { at, goes_on: false };
+        return Ok(None);
     }
-    let n = io::count(got, &buf);
-    take_all(at, &buf[..n], line)
+    Ok(Some(take_all(rt, at, &buf[..n], line)?))
 }
 
-// A proved loop has to end, and nothing says that an input does: the loop counts its turns down from a number that no run uses up.
-fn read_all(line: &mut [u8]) {
+// A proved loop has to end, and nothing says that an input does: the loop counts its turns, up to a number that no run reaches.
+fn read_all(rt: &(impl Input + Print + Eprint), line: &mut [u8]) -> io::Result<()> {
+    let mut input = rt.reader();
     let mut at = Cursor { number: 1, len: 0 };
-    let mut turns = u64::MAX;
-    while turns > 0 {
-        let s = read_some(at, line);
-        at = s.at;
-        if !s.goes_on {
-            return;
+    for _ in 0..u64::MAX {
+        match read_some(rt, &mut input, at, line)? {
+            Some(next) => at = next,
+            None => break,
         }
-        turns -= 1;
     }
+    Ok(())
 }
 
-fn main() {
-    let mut line = io::buffer();
-    read_all(&mut line);
+fn main(rt: HostRuntime) -> io::Result<()> {
+    let mut line = [0u8; ROOM];
+    read_all(&rt, &mut line)
 }

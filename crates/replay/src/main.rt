@@ -1,11 +1,16 @@
 // Prints each pattern of a stored list, and holds length, text and untouched bytes against what the crate printed for it.
 #![tactic(auto)]
 
-ghost use Rattle.io.specs.Counts.{IsPrefixLen};
+ghost use Rattle.std.specs.Prelude.{◌≤◌, length};
 
 use dtoa::Outcome;
 use hexline::Pattern;
-use libc::STDOUT_FILENO;
+use std::fs::File;
+use std::io;
+use std::io::{BufReader, Read};
+
+// The most bytes of a line that are read as one.
+const ROOM: usize = 4096;
 
 // What every byte of a buffer is before a call. No text has it.
 const MARK: u8 = b'*';
@@ -20,12 +25,10 @@ fn expected(text: &[u8], at: usize) -> u8 {
 
 // Whether a buffer holds a text and then marks alone.
 fn holds(buf: &[u8], text: &[u8]) -> bool {
-    let mut i: usize = 0;
-    while i < buf.len() {
-        if buf[i] != expected(text, i) {
+    for (i, b) in buf.iter().enumerate() {
+        if *b != expected(text, i) {
             return false;
         }
-        i += 1;
     }
     true
 }
@@ -67,16 +70,14 @@ fn prints64(bits: u64, text: &[u8]) -> bool {
 
 // How many bytes stand before the first space.
 fn before_space(line: &[u8]) -> usize
-    ensures { IsPrefixLen result line.now }
+    ensures { result ≤ length line.now }
 {
-    let mut i: usize = 0;
-    while i < line.len() {
-        if line[i] == b' ' {
+    for (i, b) in line.iter().enumerate() {
+        if *b == b' ' {
             return i;
         }
-        i += 1;
     }
-    i
+    line.len()
 }
 
 // Whether a line, a pattern and a space and the crate's text, is as we print it.
@@ -93,37 +94,34 @@ fn agrees(line: &[u8]) -> bool {
     }
 }
 
-// The next byte of a file, or a line end where it has none left.
-fn next_byte(fd: i32) -> u8 {
+// The next byte of a file, or a line end where it has none left or cannot be read.
+fn next_byte(file: &mut impl Read) -> u8 {
     let mut one = [b'\n'; 1];
-    let got = libc::read(fd, &mut one);
-    if got < 1 {
-        return b'\n';
+    match file.read(&mut one) {
+        Ok(1) => one[0],
+        _ => b'\n',
     }
-    one[0]
 }
 
 // Reads a line, and answers how many bytes it has. The list has no empty line, so 0 says that it ended.
-fn read_line(fd: i32, line: &mut [u8]) -> usize
-    ensures { IsPrefixLen result line.new }
+fn read_line(file: &mut impl Read, line: &mut [u8]) -> usize
+    ensures { result ≤ length line.new }
 {
-    let mut len: usize = 0;
-    while len < line.len() {
-        let b = next_byte(fd);
+    for (len, place) in line.iter_mut().enumerate() {
+        let b = next_byte(file);
         if b == b'\n' {
             return len;
         }
-        line[len] = b;
-        len += 1;
+        *place = b;
     }
-    len
+    line.len()
 }
 
 // Says which line we print otherwise.
-fn report(line: &[u8]) {
-    io::write_all(STDOUT_FILENO, b"replay: differs: ");
-    io::write_all(STDOUT_FILENO, line);
-    io::write_all(STDOUT_FILENO, b"\n");
+fn report(rt: &impl Print, line: &[u8]) -> io::Result<()> {
+    rt.write_all(b"replay: differs: ")?;
+    rt.write_all(line)?;
+    rt.write_all(b"\n")
 }
 
 // How many lines were compared, and how many of them differ.
@@ -134,57 +132,48 @@ struct Tally {
 }
 
 // A tally with one line more.
-fn counted(t: Tally, line: &[u8]) -> Tally {
-    let lines = std::num::wrapping_add_u32(t.lines, 1);
+fn counted(rt: &impl Print, t: Tally, line: &[u8]) -> io::Result<Tally> {
+    let lines = t.lines.wrapping_add(1);
     if agrees(line) {
-        return Tally {
+        return Ok(Tally {
             lines,
             differences: t.differences,
-        };
+        });
     }
-    report(line);
-    Tally {
+    report(rt, line)?;
+    Ok(Tally {
         lines,
-        differences: std::num::wrapping_add_u32(t.differences, 1),
-    }
+        differences: t.differences.wrapping_add(1),
+    })
 }
 
 // Compares the lines of a file, at most as many as a u32 counts.
-fn compare(fd: i32, line: &mut [u8]) -> Tally {
+fn compare(rt: &impl Print, file: &mut impl Read, line: &mut [u8]) -> io::Result<Tally> {
     let mut t = Tally {
         lines: 0,
         differences: 0,
     };
-    let mut turns = u32::MAX;
-    while turns > 0 {
-        let len = read_line(fd, line);
+    for _ in 0..u32::MAX {
+        let len = read_line(file, line);
         if len == 0 {
-            return t;
+            return Ok(t);
         }
-        t = counted(t, &line[..len]);
-        turns -= 1;
+        t = counted(rt, t, &line[..len])?;
     }
-    t
+    Ok(t)
 }
 
 // Writes the summary.
-fn summarize(t: Tally) {
-    io::write_all(STDOUT_FILENO, b"replay: ");
-    io::print_decimal(STDOUT_FILENO, t.lines as u64);
-    io::write_all(
-        STDOUT_FILENO,
-        b" patterns, each printed into 25 and into 4096 bytes: ",
-    );
-    io::print_decimal(STDOUT_FILENO, t.differences as u64);
-    io::write_all(STDOUT_FILENO, b" differences\n");
+fn summarize(rt: &impl Print, t: Tally) -> io::Result<()> {
+    let lines = t.lines;
+    let differences = t.differences;
+    println!(rt;
+        "replay: {lines} patterns, each printed into 25 and into 4096 bytes: {differences} differences"
+    )
 }
 
-fn main() {
-    let fd = os::open_read(b"list.txt");
-    if fd < 0 {
-        os::fail(b"replay: list.txt");
-        return;
-    }
-    let mut line = io::buffer();
-    summarize(compare(fd, &mut line));
+fn main(rt: HostRuntime) -> io::Result<()> {
+    let mut file = BufReader::new(rt.alloc(), File::open(&rt, "list.txt")?)?;
+    let mut line = [0u8; ROOM];
+    summarize(&rt, compare(&rt, &mut file, &mut line)?)
 }
