@@ -1,6 +1,6 @@
 # make run        prove and build the programs print and read, and show patterns, their texts, and what these are read as
-# make test       the gate: the layout of every file, then `rt ci`, all proofs, must-fail edits and programs from nothing, and beside
-#                 it the archive called from C and Rust and held against the crate and Rust's parse on a sample
+# make test       the gate: `rt ci`, the layout of every file, all proofs, must-fail edits and programs, and then the archive called
+#                 from C and Rust and held against the crate and Rust's parse on a sample
 # make test-c     call the archive from C, through include/dtoa.h
 # make test-rust  call the archive from Rust, through bindings/rust
 # make compare    call the archive and the unchanged crate with the same patterns: all of f32, 500 million random ones of f64,
@@ -13,7 +13,7 @@
 # make list       write the stored lists: that of the program replay, crates/replay/data/list.txt, from the unchanged crate, and the
 #                 texts of the program read, crates/read/stdin, with what Rust's parse reads in them, crates/read/stdout
 #
-# DTOA_LIB=FOLDER  has libdtoa_c.a; where it is not given, rt proves and makes target/staticlib/libdtoa_c.a
+# DTOA_LIB=FOLDER  has libdtoa_c.a; where it is not given, rt proves and makes crates/dtoa_c/out/libdtoa_c.a
 # DTOA_SRC=FOLDER  has the unchanged crate dtoa 1.0.11, its src/lib.rs; where it is not given, ../shared/docs/src
 
 .PHONY: run test test-c test-rust compare bench list
@@ -21,16 +21,16 @@
 export DTOA_LIB DTOA_SRC QUICK SEED REPORT BEFORE CHANGE
 
 run:
-	rt check print read
+	@mkdir -p target
+	cd crates/print && rt run < ../../examples/patterns.txt > ../../target/texts.txt
+	cd crates/read && rt run < ../../target/texts.txt > ../../target/read.txt
 	@echo
 	@echo 'Patterns, their texts as the proved program prints them, and the patterns of 32 and of 64 bits that these are read as:'
-	@target/bin/print < examples/patterns.txt > target/texts.txt
-	@target/bin/read < target/texts.txt | paste -d ' ' examples/patterns.txt target/texts.txt - | \
+	@paste -d ' ' examples/patterns.txt target/texts.txt target/read.txt | \
 	    awk '{ printf "%-16s  %-24s  %s %s\n", $$1, $$2, $$3, $$4 }'
 
 test:
-	rt fmt --check
-	tools/gate.sh
+	@tools/gate.sh
 
 test-c:
 	@tests/c/run.sh

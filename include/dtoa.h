@@ -2,7 +2,7 @@
    crate dtoa 1.0.11 does, and reads decimal text as the nearest number. The functions are proved; docs/PROMISES.md says what is
    promised of them.
 
-   Link libdtoa_c.a, which `rt staticlib dtoa_c` puts into target/staticlib. It needs no other library, allocates nothing,
+   Link libdtoa_c.a, which `rt lib` in crates/dtoa_c puts into that folder's out. It needs no other library, allocates nothing,
    keeps nothing from one call to the next, and may be called from several threads at once, each with a buffer of its own.
 
        double x = 0.1;

@@ -1,7 +1,7 @@
 # What the scripts of tests/, bindings/ and tools/ share. Each reads it from the top of the repository, after it has set
 # `name`, the word that its messages start with.
 #
-# DTOA_LIB  a folder that has libdtoa_c.a; where it is not set, rt proves and makes target/staticlib/libdtoa_c.a
+# DTOA_LIB  a folder that has libdtoa_c.a; where it is not set, rt proves and makes crates/dtoa_c/out/libdtoa_c.a
 # DTOA_SRC  the folder of the unchanged crate dtoa 1.0.11, with its src/lib.rs; ../shared/docs/src where it is not set
 # QUICK     set and not 0: a sample will do, and where this machine lacks what a script needs, the script says so and passes
 
@@ -34,8 +34,8 @@ need_source() {
 # Sets `library`, the whole path of the folder with the archive. An archive that was asked for and is not there is always an error.
 need_archive() {
     if [ -z "${DTOA_LIB:-}" ]; then
-        rt staticlib dtoa_c
-        library=$PWD/target/staticlib
+        (cd crates/dtoa_c && rt lib)
+        library=$PWD/crates/dtoa_c/out
     elif [ -f "$DTOA_LIB/libdtoa_c.a" ]; then
         library=$(cd "$DTOA_LIB" && pwd)
     else

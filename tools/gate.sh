@@ -1,67 +1,57 @@
 #!/bin/sh
-# make test: `rt ci`, and beside its must-fail edits the tests that call the archive from C and from Rust.
+# make test: `rt ci`, and then the tests that call the archive from C and from Rust, and a sample against the unchanged crate.
 #
-# rt ci proves every crate from nothing. Once it has proved dtoa_c, the archive is built over a copy of the proved libraries, so
-# that no crate below it is proved twice, and its tests run while rt ci tries the edits. What rt ci says is shown as it comes, but
-# for its last line, `N passed, M failed`, which waits for the archive's tests. Where those alone fail, they have the last word.
-# DTOA_LIB=FOLDER tests the archive in that folder, and builds none. It may lie below target/, which rt ci removes: a copy is tested.
+# rt ci runs as it stands, over the whole checkout. What it says is shown as it comes, but for its last line, `N passed, M failed`,
+# which waits for the archive's tests. N is rt ci's; M is rt ci's too, or counts what failed behind it: must-fail edits that cannot
+# be applied any more, which rt ci lets pass, and the archive's tests.
+# DTOA_LIB=FOLDER tests the archive in that folder, and builds none. rt ci empties each crate's out/, so it may not lie in one.
 set -eu
 cd "$(dirname "$0")/.."
+name=gate
+. tools/common.sh
 
-# Four at a time also on two cores: crates and edits differ in length, and rt waits for the longest of those it has started.
-export RT_JOBS="${RT_JOBS:-4}"
+passed=0 failed=1
 work=$(mktemp -d)
-trap 'rm -rf "$work"' EXIT
-if [ -n "${DTOA_LIB:-}" ]; then
-    mkdir "$work/given"
-    cp "$DTOA_LIB/libdtoa_c.a" "$work/given"
-    export DTOA_LIB="$work/given"
-fi
-rm -rf target
+# The last line, however the gate ends.
+trap 'rm -rf "$work"; echo "$passed passed, $failed failed"' EXIT
 
-# Ends well once rt ci has proved dtoa_c, and with 1 where rt ci ends first or was broken off.
-wait_for_proofs() {
-    until [ -f target/stamp/dtoa_c ]; do
-        if [ ! -d "$work" ] || [ -f "$work/status" ]; then
-            echo 'gate: dtoa_c is not proved, so its archive was not tested.'
-            return 1
-        fi
-        sleep 1
-    done
-}
-
-build_archive() {
-    mkdir "$work/target"
-    cp crates.txt "$work"
-    cp -R target/rlib target/stamp "$work/target"
-    ln -s "$PWD/crates" "$work/crates"
-    (cd "$work" && rt staticlib dtoa_c)
-    export DTOA_LIB="$work/target/staticlib"
-}
-
-test_archive() {
-    wait_for_proofs
-    if [ -z "${DTOA_LIB:-}" ]; then build_archive; fi
-    export QUICK=1 REPORT=
-    tests/c/run.sh
-    bindings/rust/test.sh
-    tools/compare/run.sh
-}
-
-test_archive >"$work/archive" 2>&1 &
-archive=$!
 {
     status=0
     rt ci 2>&1 || status=$?
     echo "$status" >"$work/status"
-} | awk -v file="$work/verdict" 'NR > 1 { print line; fflush() } { line = $0 } END { print line >file }'
+} | tee "$work/said" | awk 'NR > 1 { print line; fflush() } { line = $0 }'
 
-tested=0
-wait "$archive" || tested=$?
-cat "$work/archive" "$work/verdict"
-proved=$(cat "$work/status")
-if [ "$proved" -eq 0 ] && [ "$tested" -ne 0 ]; then
-    echo 'gate: the tests of the archive FAILED.'
+status=$(cat "$work/status")
+verdict=$(tail -n 1 "$work/said")
+counts=$(printf '%s\n' "$verdict" | sed -n 's/^\([0-9][0-9]*\) passed, \([0-9][0-9]*\) failed$/\1 \2/p')
+if [ -z "$counts" ]; then
+    printf '%s\n' "$verdict"
+    echo 'gate: rt ci broke off.'
     exit 1
 fi
-exit "$proved"
+passed=${counts% *}
+if [ "$status" -ne 0 ] || [ "${counts#* }" -ne 0 ]; then
+    if [ "${counts#* }" -ne 0 ]; then failed=${counts#* }; fi
+    echo 'gate: rt ci FAILED, so the archive was not tested.'
+    exit 1
+fi
+
+# Among what it settles: `must-fail edits: N refused, M bad;`
+settled=$(grep '^rt: ok;' "$work/said" | tail -n 1)
+bad=$(printf '%s\n' "$settled" | sed -n 's/.*, \([0-9][0-9]*\) bad;.*/\1/p')
+if [ -z "$settled" ] || [ "${bad:-0}" -ne 0 ]; then
+    failed=${bad:-1}
+    echo 'gate: rt ci passed, but some must-fail edits are bad, as it says above.'
+    exit 1
+fi
+
+need_archive
+export DTOA_LIB="$library" QUICK=1 REPORT=
+failed=0
+for test in tests/c/run.sh bindings/rust/test.sh tools/compare/run.sh; do
+    if ! "$test"; then
+        echo "gate: $test FAILED."
+        failed=$((failed + 1))
+    fi
+done
+[ "$failed" -eq 0 ]

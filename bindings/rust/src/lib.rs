@@ -4,7 +4,7 @@
 //!
 //! # Use
 //!
-//! In the `Cargo.toml` of a package beside this repository, after `rt staticlib dtoa_c` in the repository:
+//! In the `Cargo.toml` of a package beside this repository, after `rt lib` in the repository's folder crates/dtoa_c:
 //!
 //! ```toml
 //! [dependencies]
