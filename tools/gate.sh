@@ -19,7 +19,7 @@ trap 'rm -rf "$work"; echo "$passed passed, $failed failed"' EXIT
     status=0
     rt ci 2>&1 || status=$?
     echo "$status" >"$work/status"
-} | tee "$work/said" | awk 'NR > 1 { print line; fflush() } { line = $0 }'
+} | tee "$work/said" | sed -u '$d'
 
 status=$(cat "$work/status")
 verdict=$(tail -n 1 "$work/said")
