@@ -10,7 +10,7 @@ use lib.Signed.{mag, non_neg}
 use mir.Syntax.{w32}
 use mir.Val.{SFits}
 use Rattle.laws.proofs.Differences as difference
-use Rattle.laws.proofs.Signed.{Is, Held, Apart, read, held, unchanged, sum, apart, at_least}
+use Rattle.laws.proofs.Signed.{Is, Held, Apart, read, held, unchanged, apart, at_least}
 use Rattle.rules.specs.Width.{Width, off}
 use Rattle.rules.specs.Pattern.{Pair, all_ones}
 use Rattle.rules.specs.Boundaries.{upper, lower, value}

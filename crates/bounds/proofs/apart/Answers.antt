@@ -1,10 +1,9 @@
 -- `bounds::apart` meets its contract. Assumes nothing.
 use mathlib.Core.Path.{◌≡◌}
 use Prim.Native.Nat.{ℕ, ◌+◌, ◌-◌, ◌*◌, ◌/◌, ◌%◌, ◌^◌, ◌≤◌}
-use native.Mathlib.Nat.{mod-eq_of_lt, mul-le-mul_left, mul-le-mul_right}
+use native.Mathlib.Nat.{mod-eq_of_lt, mul-le-mul_left}
 use native.Mathlib.Omega.{arith}
 use lib.Pow.{pow_mono}
-use borrow.Author.Rules.{rules}
 use Rattle.laws.proofs.Zeros.{Fills}
 use Rattle.closest.proofs.Packing.{one_shifted, placed}
 use Rattle.bounds.proofs.Decisions.{shifted, half_least, half_most, next_place, place_most, both_ends}

@@ -3,7 +3,6 @@ use mathlib.Core.Path.{sym}
 use Prim.Native.Nat.{◌+◌}
 use native.Mathlib.Nat.{le_of_eq, le_trans}
 use native.Mathlib.Omega.{arith}
-use borrow.Author.Rules.{rules}
 use Rattle.bounds.proofs.Products.{halved}
 use Rattle.bounds.proofs.at_most.Goals as goal
 

@@ -2,9 +2,7 @@
 use Prim.Native.Nat.{◌<◌}
 use native.Mathlib.Omega.{arith}
 use lib.Count.{count_leading_zeros}
-use lib.Dec.{lit≤}
-use borrow.Author.Rules.{rules}
-use Rattle.laws.proofs.Zeros.{few_zeros, fits_u64}
+use Rattle.laws.proofs.Zeros.{few_zeros}
 use Rattle.bounds.proofs.Products.{exponent_few, product_high, bounded}
 use Rattle.bounds.proofs.multiplied.Goals as goal
 use Rattle.bounds.proofs.multiplied.Goals.{Start}

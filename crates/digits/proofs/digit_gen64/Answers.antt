@@ -4,7 +4,6 @@ use mir.Facts.{to_z-of_z}
 use mir.Syntax.{w32}
 use mir.Val.{SFits}
 use Rattle.digits.proofs.FirstPlace.{within_room, few_units, some_digit, below_byte, generated}
-use borrow.Author.Rules.{rules}
 use Rattle.digits.proofs.digit_gen64.Goals as goal
 use Rattle.digits.proofs.digit_gen64.Goals.{After-first_place-f}
 

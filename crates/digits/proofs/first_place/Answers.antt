@@ -1,12 +1,11 @@
 -- `digits::first_place` meets its contract. Assumes nothing.
 use mathlib.Core.Path.{ap, ◌∙◌}
 use Prim.Native.Nat.{ℕ, ◌*◌, ◌^◌, ◌<◌}
-use native.Mathlib.Nat.{one-mul, pow-le-pow_right, zero-lt-suc}
+use native.Mathlib.Nat.{one-mul}
 use native.Mathlib.Omega.{arith}
 use mir.Facts.{to_z-of_z, to_z_pos}
 use mir.Syntax.{w32}
-use Rattle.laws.proofs.Puts.{kept}
-use Rattle.digits.proofs.FirstPlace.{below_nine, unit_most, found_above, ready_under, distance_small, found_under}
+use Rattle.digits.proofs.FirstPlace.{below_nine, unit_most, found_above, found_under}
 use Rattle.laws.proofs.Signed.{minus, minus_fits}
 use Rattle.digits.proofs.first_place.Goals as goal
 use Rattle.digits.proofs.first_place.Goals.{After-places_under-low}

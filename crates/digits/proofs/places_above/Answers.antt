@@ -1,9 +1,9 @@
 -- `digits::places_above` meets its contract. Assumes nothing.
-use mathlib.Core.Path.{◌≡◌, ◌∙◌}
+use mathlib.Core.Path.{◌≡◌}
 use Prim.Native.Nat.{suc, ◌-◌}
 use native.Mathlib.Omega.{arith}
 use Rattle.laws.proofs.Puts.{kept}
-use Rattle.digits.proofs.PlacesAbove.{Turn, whole_less, at_most_nine, first_turn, front_less, rest_most, place_tried, next_turn}
+use Rattle.digits.proofs.PlacesAbove.{Turn, at_most_nine, first_turn, front_less, place_tried, next_turn}
 use Rattle.digits.proofs.places_above.Goals as goal
 use Rattle.digits.proofs.places_above.Goals.{After-split_digits-s}
 

@@ -1,10 +1,6 @@
 -- `digits::places_under` meets its contract. Assumes nothing.
-use mathlib.Core.Path.{refl}
 use Prim.Native.Nat.{◌-◌}
-use native.Mathlib.Omega.{arith}
-use Rattle.laws.proofs.Puts.{kept}
 use Rattle.digits.specs.Digits.{TriedUnder}
-use Rattle.digits.proofs.PlacesUnder.{none_tried, digit_less, rest_small, not_far, next_less, one_tried}
 use Rattle.digits.proofs.places_under.Given as goal
 
 abbrev pub invariant-loop-room : goal.invariant-loop-room

@@ -3,7 +3,6 @@ use native.Mathlib.Omega.{arith}
 use Rattle.rules.specs.Width.{w64}
 use Rattle.rules.specs.Answer.{every, refuses}
 use Rattle.dtoa.proofs.Outcomes.{too_short, printed}
-use borrow.Author.Rules.{rules}
 use Rattle.dtoa.proofs.format64.Goals as goal
 
 pub returns-then-buf-lt-ROOM : goal.returns-then-buf-lt-ROOM

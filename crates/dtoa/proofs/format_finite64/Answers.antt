@@ -4,7 +4,6 @@ use Rattle.rules.specs.Width.{w64}
 use Rattle.rules.specs.Answer.{finite_only, refuses}
 use Rattle.dtoa.proofs.Outcomes.{too_short, not_finite, printed}
 use Rattle.text.proofs.Spelling.{found, found_not}
-use borrow.Author.Rules.{rules}
 use Rattle.dtoa.proofs.format_finite64.Goals as goal
 
 pub returns-then-buf-lt-ROOM : goal.returns-then-buf-lt-ROOM

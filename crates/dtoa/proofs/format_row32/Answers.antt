@@ -2,7 +2,6 @@
 use native.Mathlib.Omega.{arith}
 use Rattle.rules.specs.Width.{w32}
 use Rattle.dtoa.proofs.RowOutcomes.{too_many, too_short, printed}
-use borrow.Author.Rules.{rules}
 use Rattle.dtoa.proofs.format_row32.Goals as goal
 
 pub returns-then-patterns-gt-ROW_LIMIT : goal.returns-then-patterns-gt-ROW_LIMIT

@@ -2,8 +2,7 @@
 use Rattle.rules.specs.Width.{w64}
 use Rattle.rules.specs.Answer.{every}
 use Rattle.theorems.proofs.Printable.{printable64}
-use Rattle.dtoa_c.proofs.Answering.{length_held, exported}
-use borrow.Author.Rules.{rules}
+use Rattle.dtoa_c.proofs.Answering.{length_held}
 use Rattle.dtoa_c.proofs.dtoa_format64.Goals as goal
 
 pub answered-requires : goal.answered-requires

@@ -2,8 +2,7 @@
 use Rattle.rules.specs.Width.{w32}
 use Rattle.rules.specs.Answer.{finite_only}
 use Rattle.theorems.proofs.Printable.{printable32}
-use Rattle.dtoa_c.proofs.Answering.{length_held, exported}
-use borrow.Author.Rules.{rules}
+use Rattle.dtoa_c.proofs.Answering.{length_held}
 use Rattle.dtoa_c.proofs.dtoa_format_finite32.Goals as goal
 
 pub answered-requires : goal.answered-requires

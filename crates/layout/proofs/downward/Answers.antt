@@ -2,7 +2,6 @@
 use mathlib.Core.Path.{◌≡◌, sym}
 use Prim.Native.Nat.{ℕ, ◌+◌, ◌-◌, ◌^◌, ◌<◌}
 use native.Mathlib.Omega.{arith}
-use lib.ListN.{length, take}
 use lib.IntN.{negsuc, pos, ◌-ℤ◌}
 use mir.Facts.{to_z-of_z}
 use mir.Syntax.{w32}

@@ -2,7 +2,6 @@
 use native.Mathlib.Omega.{arith}
 use mir.Facts.{to_z-of_z}
 use Rattle.laws.proofs.Puts.{then, part}
-use borrow.Author.Rules.{rules}
 use Rattle.layout.proofs.put_exponent.Goals as goal
 
 pub returns : goal.returns

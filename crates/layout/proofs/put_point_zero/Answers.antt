@@ -1,5 +1,4 @@
 -- `layout::put_point_zero` meets its contract. Assumes nothing.
-use native.Mathlib.Omega.{arith}
 use Rattle.laws.proofs.Puts.{then}
 use Rattle.rules.specs.Bytes.{bytes}
 use Rattle.layout.proofs.put_point_zero.Goals as goal

@@ -1,9 +1,6 @@
 -- `layout::scientific` meets its contract. Assumes nothing.
-use native.Mathlib.Omega.{arith}
 use mir.Facts.{to_z-of_z}
-use Rattle.laws.proofs.Puts.{kept, moved_end}
 use Rattle.layout.proofs.Texts.{one_scientific, more_scientific}
-use borrow.Author.Rules.{rules}
 use Rattle.layout.proofs.scientific.Goals as goal
 
 pub returns-then-len-eq1 : goal.returns-then-len-eq1

@@ -1,5 +1,4 @@
 -- `layout::small` meets its contract. Assumes nothing.
-use native.Mathlib.Omega.{arith}
 use Rattle.layout.proofs.Texts.{small_text}
 use Rattle.layout.proofs.small.Goals as goal
 

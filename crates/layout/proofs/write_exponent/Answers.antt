@@ -1,13 +1,8 @@
 -- `layout::write_exponent` meets its contract: the sign first, then the digits. Assumes nothing.
-use mathlib.Core.Path.{◌≡◌}
 use native.Mathlib.Omega.{arith}
-use lib.IntN.{nat_abs}
 use mir.Facts.{to_z-of_z}
-use mir.Syntax.{w32}
-use mir.Val.{to_z, of_z}
-use Rattle.laws.proofs.Puts.{kept, then, part, part_room}
+use Rattle.laws.proofs.Puts.{then, part}
 use Rattle.layout.proofs.Signs.{exponent-below, exponent_upward}
-use borrow.Author.Rules.{rules}
 use Rattle.layout.proofs.write_exponent.Goals as goal
 
 pub returns-then-k-lt0 : goal.returns-then-k-lt0

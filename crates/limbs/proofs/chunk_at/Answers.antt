@@ -1,14 +1,11 @@
 -- `limbs::chunk_at` meets its contract: what is read so far is a part of the digits. Assumes nothing.
 use mathlib.Core.Bool.{Bool, false}
-use mathlib.Core.Logic.{⊎_elim}
 use mathlib.Core.Path.{◌≡◌, subst}
 use mathlib.Core.List.{List}
-use Prim.Native.Nat.{ℕ, ◌-◌}
+use Prim.Native.Nat.{ℕ}
 use native.Mathlib.Numerals.{add-one}
-use native.Mathlib.Omega.{arith}
-use lib.ListN.{length}
 use Rattle.limbs.specs.Chunked.{Goes, Ends}
-use Rattle.limbs.proofs.Chunks.{Part, begin, one_digit, one_point, chunked}
+use Rattle.limbs.proofs.Chunks.{one_digit, one_point}
 use Rattle.limbs.proofs.chunk_at.Goals as goal
 use Rattle.limbs.proofs.chunk_at.Goals.{then-b-ne46, else-b-ne46}
 

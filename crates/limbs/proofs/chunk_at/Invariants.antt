@@ -1,13 +1,7 @@
 -- `limbs::chunk_at` meets its contract: what is read so far is a part of the digits. Assumes nothing.
-use mathlib.Core.Bool.{Bool}
-use mathlib.Core.Logic.{⊎_elim}
-use mathlib.Core.Path.{subst}
 use Prim.Native.Nat.{◌-◌}
-use native.Mathlib.Numerals.{add-one}
-use native.Mathlib.Omega.{arith}
 use lib.ListN.{length}
-use Rattle.limbs.specs.Chunked.{Goes, Ends}
-use Rattle.limbs.proofs.Chunks.{Part, begin, one_digit, one_point, chunked}
+use Rattle.limbs.proofs.Chunks.{Part}
 use Rattle.limbs.proofs.chunk_at.Given as goal
 
 abbrev pub invariant-loop-power : goal.invariant-loop-power

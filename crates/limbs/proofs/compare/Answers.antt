@@ -2,7 +2,7 @@
 use mathlib.Core.Path.{◌≡◌, sym}
 use native.Mathlib.Omega.{arith}
 use lib.ListN.{length}
-use Rattle.limbs.proofs.Ordered.{Alike, begin, step, turned, less, equal}
+use Rattle.limbs.proofs.Ordered.{turned, less, equal}
 use Rattle.limbs.proofs.compare.Goals as goal
 
 pub returns-then-x-y : goal.returns-then-x-y

@@ -1,8 +1,5 @@
 -- `limbs::compare` meets its contract: the limbs passed are the same. Assumes nothing.
-use mathlib.Core.Path.{◌≡◌, sym}
-use native.Mathlib.Omega.{arith}
-use lib.ListN.{length}
-use Rattle.limbs.proofs.Ordered.{Alike, begin, step, turned, less, equal}
+use Rattle.limbs.proofs.Ordered.{Alike}
 use Rattle.limbs.proofs.compare.Given as goal
 
 abbrev pub invariant-loop-i : goal.invariant-loop-i

@@ -1,5 +1,4 @@
 -- `limbs::ends` meets its contract. Assumes nothing.
-use native.Mathlib.Omega.{arith}
 use Rattle.limbs.proofs.Chunks.{at_end, below_digits, from_digits}
 use Rattle.limbs.proofs.ends.Goals as goal
 

@@ -1,9 +1,6 @@
 -- `limbs::five_power` meets its contract. Assumes nothing.
-use mathlib.Core.Path.{◌≡◌, refl, ap, ◌∙◌}
-use Prim.Native.Nat.{ℕ, ◌-◌, ◌*◌, ◌+◌, ◌^◌, ◌≤◌}
-use native.Mathlib.Nat.{pow-suc, pow-le-pow_right, zero-lt-suc}
-use native.Mathlib.Numerals.{add-one}
-use native.Mathlib.Omega.{arith}
+use mathlib.Core.Path.{◌≡◌}
+use Prim.Native.Nat.{◌-◌, ◌^◌, ◌≤◌}
 use Rattle.limbs.proofs.five_power.Given as goal
 
 abbrev pub invariant-loop-i : goal.invariant-loop-i

@@ -1,6 +1,4 @@
 -- `limbs::load` meets its contract. Assumes nothing.
-use native.Mathlib.Omega.{arith}
-use lib.ListN.{length-set}
 use Rattle.limbs.proofs.Parts.{loaded}
 use Rattle.limbs.proofs.load.Goals as goal
 

@@ -1,8 +1,5 @@
 -- `limbs::load_digits` meets its contract: the digits passed are in the limbs. Assumes nothing.
-use Prim.Native.Nat.{◌-◌}
-use native.Mathlib.Omega.{arith}
-use lib.ListN.{length}
-use Rattle.limbs.proofs.Reading.{Read, begin, fits, step, ended, finished}
+use Rattle.limbs.proofs.Reading.{fits, finished}
 use Rattle.limbs.proofs.load_digits.Goals as goal
 
 pub mul_add-requires : goal.mul_add-requires

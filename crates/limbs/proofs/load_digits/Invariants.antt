@@ -1,8 +1,7 @@
 -- `limbs::load_digits` meets its contract: the digits passed are in the limbs. Assumes nothing.
 use Prim.Native.Nat.{◌-◌}
-use native.Mathlib.Omega.{arith}
 use lib.ListN.{length}
-use Rattle.limbs.proofs.Reading.{Read, begin, fits, step, ended, finished}
+use Rattle.limbs.proofs.Reading.{Read}
 use Rattle.limbs.proofs.load_digits.Given as goal
 
 abbrev pub invariant-loop-i : goal.invariant-loop-i

@@ -1,9 +1,9 @@
 -- `limbs::mul_add` meets its contract: the limbs passed and the carry are the product of those that were there. Assumes nothing.
-use Prim.Native.Nat.{◌-◌, ◌*◌, ◌+◌, ◌^◌, ◌<◌}
+use Prim.Native.Nat.{◌*◌, ◌+◌, ◌^◌, ◌<◌}
 use native.Mathlib.Omega.{arith}
 use native.Mathlib.Numerals.{add-one}
-use lib.ListN.{get_or, length}
-use Rattle.limbs.proofs.Product.{Done, begin, step, fits, finished}
+use lib.ListN.{get_or}
+use Rattle.limbs.proofs.Product.{begin, step, fits, finished}
 use Rattle.limbs.proofs.mul_add.Goals as goal
 use Rattle.limbs.proofs.mul_add.Goals.{After-slice_known-1}
 

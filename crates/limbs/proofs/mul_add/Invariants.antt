@@ -1,9 +1,7 @@
 -- `limbs::mul_add` meets its contract: the limbs passed and the carry are the product of those that were there. Assumes nothing.
-use Prim.Native.Nat.{◌-◌, ◌*◌, ◌+◌, ◌^◌, ◌<◌}
-use native.Mathlib.Omega.{arith}
-use native.Mathlib.Numerals.{add-one}
-use lib.ListN.{get_or, length}
-use Rattle.limbs.proofs.Product.{Done, begin, step, fits, finished}
+use Prim.Native.Nat.{◌-◌}
+use lib.ListN.{length}
+use Rattle.limbs.proofs.Product.{Done}
 use Rattle.limbs.proofs.mul_add.Given as goal
 
 abbrev pub invariant-loop-i : goal.invariant-loop-i

@@ -1,6 +1,5 @@
 -- `limbs::put_digits` meets its contract. Assumes nothing.
-use native.Mathlib.Omega.{arith}
-use Rattle.limbs.proofs.Scaled.{bare, room_left, multiplied}
+use Rattle.limbs.proofs.Scaled.{bare, room_left}
 use Rattle.limbs.proofs.put_digits.Goals as goal
 
 pub load_digits-requires : goal.load_digits-requires

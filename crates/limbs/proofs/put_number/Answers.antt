@@ -1,6 +1,5 @@
 -- `limbs::put_number` meets its contract. Assumes nothing.
-use native.Mathlib.Omega.{arith}
-use Rattle.limbs.proofs.Scaled.{room_left, multiplied}
+use Rattle.limbs.proofs.Scaled.{room_left}
 use Rattle.limbs.proofs.put_number.Goals as goal
 
 pub scale-requires : goal.scale-requires

@@ -1,8 +1,6 @@
 -- `limbs::times_fives` meets its contract: the limbs, times the fives that are left, are the product. Assumes nothing.
-use Prim.Native.Nat.{◌+◌, ◌*◌, ◌^◌}
 use native.Mathlib.Omega.{arith}
-use Rattle.limbs.specs.Total.{total, Becomes}
-use Rattle.limbs.proofs.Fives.{Toward, begin, fits, step, finished}
+use Rattle.limbs.proofs.Fives.{fits, step}
 use Rattle.limbs.proofs.times_fives.Goals as goal
 
 pub mul_add-requires : goal.mul_add-requires

@@ -2,7 +2,6 @@
 use mathlib.Core.Path.{◌≡◌}
 use Prim.Native.Nat.{ℕ, ◌≤◌}
 use native.Mathlib.Omega.{arith}
-use borrow.Author.Rules.{rules}
 use Rattle.scan.specs.declared.Decimal.{Decimal}
 use Rattle.reader.specs.Reads.{decimal}
 use Rattle.reader.specs.Scaled.{Tabled}

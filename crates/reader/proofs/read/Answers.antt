@@ -1,7 +1,6 @@
 -- `reader::read` meets its contract at either width: the text's length, and each case of its scan. Assumes nothing.
 use mathlib.Core.Path.{sym, subst}
 use native.Mathlib.Omega.{arith}
-use borrow.Author.Rules.{rules}
 use Rattle.theorems.proofs.ReadLength.{empty_refused, long_refused}
 use Rattle.scan.specs.Scans.{Scans}
 use Rattle.reader.specs.Widths.{width_of}

@@ -1,7 +1,5 @@
 -- `reader::read32` meets its contract: no pattern of binary32 has more than 32 bits. Assumes nothing.
-use mathlib.Core.Path.{◌∙◌}
 use native.Mathlib.Omega.{arith}
-use borrow.Author.Rules.{rules}
 use Rattle.rules.specs.Width.{w32}
 use Rattle.rules.specs.Pattern.{all_ones}
 use Rattle.rules.specs.Reading.{infinity}

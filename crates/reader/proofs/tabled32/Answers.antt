@@ -1,5 +1,4 @@
 -- `reader::tabled32` meets its contract: at once, or by comparison. Assumes nothing.
-use borrow.Author.Rules.{rules}
 use Rattle.rules.specs.Width.{w32}
 use Rattle.reader.specs.Reads.{decimal}
 use Rattle.reader.proofs.Extremes.{spanned32}

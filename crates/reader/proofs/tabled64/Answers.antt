@@ -1,7 +1,5 @@
 -- `reader::tabled64` meets its contract: at once, the quick way, or by comparison. Assumes nothing.
 use mathlib.Core.Path.{subst}
-use borrow.Author.Rules.{rules}
-use borrow.Author.Tests.{not-true}
 use Rattle.rules.specs.Width.{w64}
 use Rattle.fast.specs.Quick.{Finds}
 use Rattle.reader.specs.Reads.{decimal}

@@ -1,12 +1,8 @@
 -- `row::print_row32` meets its contract: one pattern less is left with each turn. Assumes nothing.
-use Prim.Native.Nat.{◌-◌}
 use native.Mathlib.Omega.{arith}
-use lib.ListN.{length}
-use Rattle.laws.proofs.Puts.{part, part_room}
-use Rattle.rules.specs.Width.{w32}
+use Rattle.laws.proofs.Puts.{part}
 use Rattle.theorems.proofs.Printable.{printable32}
-use Rattle.row.proofs.Joining.{Before, start, end, space-room, next, last}
-use borrow.Author.Rules.{rules}
+use Rattle.row.proofs.Joining.{end, space-room, next, last}
 use Rattle.row.proofs.print_row32.Goals as goal
 
 pub byte-at-requires : goal.byte-at-requires

@@ -1,7 +1,6 @@
 -- `settle::midpoint_above` meets its contract, by the pattern's exponent field. Assumes nothing.
 use native.Mathlib.Omega.{arith}
-use borrow.Author.Rules.{rules}
-use Rattle.settle.proofs.Middles.{hidden_some, field_few, significand_few, with_field_0, with_field}
+use Rattle.settle.proofs.Middles.{with_field_0, with_field}
 use Rattle.settle.proofs.midpoint_above.Goals as goal
 
 pub returns-then-field-eq0 : goal.returns-then-field-eq0

@@ -1,12 +1,8 @@
 -- `settle::settle` meets its contract: each turn rules a pattern out, or ends at the one that the number reads as. Assumes nothing.
-use mathlib.Core.Path.{sym, subst}
-use Prim.Native.Nat.{◌-◌, ◌*◌, ◌^◌, ◌<◌}
-use native.Mathlib.Omega.{arith}
+use Prim.Native.Nat.{◌-◌}
 use lib.ListN.{drop}
-use borrow.Author.Rules.{rules}
 use Rattle.scan.specs.Mantissa.{mantissa}
-use Rattle.settle.specs.Settles.{Side, Settles}
-use Rattle.settle.proofs.Settling.{Reached, at_first, at_last, at_infinity, when_below, when_equal, when_above}
+use Rattle.settle.proofs.Settling.{Reached}
 use Rattle.settle.proofs.settle.Given as goal
 
 abbrev pub invariant-loop-p : goal.invariant-loop-p

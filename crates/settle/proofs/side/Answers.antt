@@ -1,6 +1,5 @@
 -- `settle::side` meets its contract: the fives and twos of the power of ten stand at one side. Assumes nothing.
 use lib.ListN.{drop}
-use borrow.Author.Rules.{rules}
 use Rattle.scan.specs.Mantissa.{mantissa}
 use Rattle.settle.proofs.Sides.{above_unit, below_unit}
 use Rattle.settle.proofs.side.Goals as goal

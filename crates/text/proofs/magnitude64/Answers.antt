@@ -1,5 +1,4 @@
 -- `text::magnitude64` meets its contract: `0.0`, or the digits and their layout. Assumes nothing.
-use borrow.Author.Rules.{rules}
 use native.Mathlib.Omega.{arith}
 use Rattle.rules.specs.Width.{w64}
 use Rattle.theorems.proofs.Printable.{printable64}

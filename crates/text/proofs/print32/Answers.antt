@@ -1,9 +1,8 @@
 -- `text::print32` meets its contract: a name, or a sign and the magnitude. Assumes nothing.
 use native.Mathlib.Omega.{arith}
-use Rattle.laws.proofs.Puts.{kept, then, part, part_room}
+use Rattle.laws.proofs.Puts.{then, part}
 use Rattle.rules.specs.Width.{w32}
-use Rattle.text.proofs.Spelling.{special-text, ordinary_text, dash_short, found, found_not}
-use borrow.Author.Rules.{rules}
+use Rattle.text.proofs.Spelling.{special-text, ordinary_text, found, found_not}
 use Rattle.text.proofs.print32.Goals as goal
 
 pub returns-then-is_special32 : goal.returns-then-is_special32

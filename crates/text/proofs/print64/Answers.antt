@@ -1,9 +1,8 @@
 -- `text::print64` meets its contract: a name, or a sign and the magnitude. Assumes nothing.
 use native.Mathlib.Omega.{arith}
-use Rattle.laws.proofs.Puts.{kept, then, part, part_room}
+use Rattle.laws.proofs.Puts.{then, part}
 use Rattle.rules.specs.Width.{w64}
-use Rattle.text.proofs.Spelling.{special-text, ordinary_text, dash_short, found, found_not}
-use borrow.Author.Rules.{rules}
+use Rattle.text.proofs.Spelling.{special-text, ordinary_text, found, found_not}
 use Rattle.text.proofs.print64.Goals as goal
 
 pub returns-then-is_special64 : goal.returns-then-is_special64

@@ -1,9 +1,6 @@
 -- `text::put_name` meets its contract. Assumes nothing.
-use native.Mathlib.Omega.{arith}
-use Rattle.laws.proofs.Puts.{kept, then}
+use Rattle.laws.proofs.Puts.{then}
 use Rattle.rules.specs.Bytes.{bytes}
-use Rattle.text.proofs.Spelling.{dash_short}
-use borrow.Author.Rules.{rules}
 use Rattle.text.proofs.put_name.Goals as goal
 
 pub returns-then-infinite : goal.returns-then-infinite

@@ -1,7 +1,6 @@
 -- `text::put_sign` meets its contract. Assumes nothing.
 use native.Mathlib.Omega.{arith}
 use Rattle.laws.proofs.Puts.{none}
-use borrow.Author.Rules.{rules}
 use Rattle.text.proofs.put_sign.Goals as goal
 
 pub returns : goal.returns

@@ -1,6 +1,5 @@
 -- `text::three` meets its contract: one byte behind the other. Assumes nothing.
 use Rattle.laws.proofs.Puts.{then}
-use borrow.Author.Rules.{rules}
 use Rattle.text.proofs.three.Goals as goal
 
 pub returns : goal.returns

@@ -1,8 +1,7 @@
 -- `dtoa_c::rows::dtoa_format_row32` meets its contract. Assumes nothing.
 use Rattle.rules.specs.Width.{w32}
 use Rattle.theorems.proofs.Printable.{printable32}
-use Rattle.dtoa_c.proofs.Answering.{row_length_held, row_exported}
-use borrow.Author.Rules.{rules}
+use Rattle.dtoa_c.proofs.Answering.{row_length_held}
 use Rattle.dtoa_c.proofs.rows.dtoa_format_row32.Goals as goal
 
 pub answered_row-requires : goal.answered_row-requires

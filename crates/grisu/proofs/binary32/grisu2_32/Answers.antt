@@ -1,5 +1,4 @@
 -- `grisu::binary32::grisu2_32` meets its contract. Assumes nothing.
-use borrow.Author.Rules.{rules}
 use native.Mathlib.Omega.{arith}
 use lib.Dec.{lit≤}
 use Rattle.rules.specs.Width.{w32}

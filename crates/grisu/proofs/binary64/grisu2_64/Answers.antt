@@ -1,5 +1,4 @@
 -- `grisu::binary64::grisu2_64` meets its contract. Assumes nothing.
-use borrow.Author.Rules.{rules}
 use native.Mathlib.Omega.{arith}
 use lib.Dec.{lit≤}
 use Rattle.rules.specs.Width.{w64}

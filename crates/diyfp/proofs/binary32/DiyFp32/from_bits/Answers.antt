@@ -1,11 +1,10 @@
 -- `diyfp::binary32::DiyFp32::from_bits` meets its contract. Assumes nothing.
-use borrow.Author.Rules.{rules}
 use mathlib.Core.Path.{refl}
 use lib.Bits.{and_mask}
 use lib.Dec.{lit<, lit≤}
 use Rattle.rules.specs.Width.{w32}
 use Rattle.rules.specs.Pattern.{biased, significand}
-use Rattle.diyfp.proofs.Splitting.{field, masked_field, masked_sum, unbiased, normal, subnormal}
+use Rattle.diyfp.proofs.Splitting.{field, masked_field, unbiased, normal, subnormal}
 use Rattle.diyfp.proofs.binary32.DiyFp32.from_bits.Goals as goal
 
 pub returns-then-biased_e-ne0 : goal.returns-then-biased_e-ne0

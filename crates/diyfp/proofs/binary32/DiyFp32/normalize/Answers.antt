@@ -1,7 +1,5 @@
 -- `diyfp::binary32::DiyFp32::normalize` meets its contract. Assumes nothing.
 use native.Mathlib.Omega.{arith}
-use lib.Dec.{lit≤}
-use Rattle.laws.proofs.Zeros.{fits_i32, few_zeros}
 use Rattle.rules.specs.Width.{w32}
 use Rattle.powers.proofs.Small.{small32}
 use Rattle.diyfp.proofs.Shifting.{falls, fits, becomes}

@@ -2,9 +2,8 @@
 use mathlib.Core.Path.{sym}
 use Prim.Native.Nat.{◌+◌, ◌*◌, ◌^◌, ◌<◌}
 use native.Mathlib.Omega.{arith}
-use borrow.Author.Rules.{rules}
 use lib.Dec.{lit<, lit≤}
-use Rattle.laws.proofs.Halves.{product_fits, rounded_fits}
+use Rattle.laws.proofs.Halves.{product_fits}
 use Rattle.rules.specs.Width.{w32}
 use Rattle.theorems.proofs.Product.{dropped_nothing}
 use Rattle.diyfp.proofs.Multiplying.{Sum, sums}

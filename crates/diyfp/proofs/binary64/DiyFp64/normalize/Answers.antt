@@ -1,7 +1,5 @@
 -- `diyfp::binary64::DiyFp64::normalize` meets its contract. Assumes nothing.
 use native.Mathlib.Omega.{arith}
-use lib.Dec.{lit≤}
-use Rattle.laws.proofs.Zeros.{fits_u64, fits_i32, few_zeros}
 use Rattle.rules.specs.Width.{w64}
 use Rattle.powers.proofs.Small.{small64}
 use Rattle.diyfp.proofs.Shifting.{falls, fits, becomes}
