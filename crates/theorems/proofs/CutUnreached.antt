@@ -18,6 +18,7 @@ use Rattle.rules.specs.Pattern.{magnitude}
 use Rattle.rules.specs.Digits.{decimal}
 use Rattle.rules.specs.Layout.{zeros, scientific, exponent, by_rule, layout}
 use Rattle.rules.specs.Text.{signed, text}
+use Rattle.theorems.proofs.CutPlaces.{places}
 use Rattle.theorems.proofs.Counting.{length-numeral}
 use Rattle.theorems.proofs.LayoutReads.{length-zeros}
 use Rattle.theorems.proofs.Widths.{w16}
@@ -26,10 +27,6 @@ use Rattle.theorems.proofs.Printable.{Printable, printable16, printable32, print
 use Rattle.theorems.proofs.Decimal.{printed}
 use Rattle.theorems.proofs.RoundTrip.{finite_text, laid_text}
 use Rattle.theorems.proofs.Promises.{Ordinary}
-
--- The most digits that the crate keeps behind the point: its MAX_DECIMAL_PLACES.
-abbrev pub places : ℕ
-places = 324
 
 -- A digit before what is left of the digits behind it; a zero with nothing left behind it goes.
 unfoldable pub joined : ℕ → List ℕ → List ℕ

@@ -35,4 +35,5 @@ pub mod Ieee
 pub mod Visible
 pub mod Rows
 pub mod Promises
+pub mod CutPlaces
 pub mod CutUnreached
