@@ -1,7 +1,7 @@
 // Prints the text of each pattern that standard input lists, one to a line: 8 hex digits for 32 bits, 16 for 64.
 #![tactic(auto)]
 
-ghost use Rattle.std.specs.Prelude.{◌≤◌, length};
+ghost use Rattle.std.specs.Prelude.{◌≡◌, ◌≤◌, length, take};
 
 use dtoa::Outcome;
 use hexline::Pattern;
@@ -47,7 +47,7 @@ fn said(line: &[u8], len: usize) -> Pattern {
 
 // Puts a line end behind a printed text, and answers how many bytes both have; 0 where nothing was printed.
 fn with_line_end(o: Outcome, text: &mut [u8]) -> usize
-    ensures { result ≤ length text.new }
+    ensures { (result ≤ length text.new) × (result ≡ length (take result text.new)) }
 {
     let Outcome::Printed(n) = o else {
         return 0;

@@ -1,7 +1,7 @@
 // Reads each text that standard input lists, one to a line, and writes its patterns of 32 and of 64 bits in hex.
 #![tactic(auto)]
 
-ghost use Rattle.std.specs.Prelude.{◌≤◌, length};
+ghost use Rattle.std.specs.Prelude.{◌≡◌, ◌≤◌, length, take};
 
 use reader::{Outcome32, Outcome64};
 use std::io;
@@ -35,7 +35,7 @@ fn with_byte(at: Cursor, b: u8, line: &mut [u8]) -> Cursor {
 
 // How many bytes of a line are its text: a carriage return before the line end is none of them.
 fn text_length(line: &[u8], len: usize) -> usize
-    ensures { result ≤ length line.now }
+    ensures { (result ≤ length line.now) × (result ≡ length (take result line.now)) }
 {
     if line.len() < len {
         return 0;

@@ -1,7 +1,7 @@
 // Prints each pattern of a stored list, and holds length, text and untouched bytes against what the crate printed for it.
 #![tactic(auto)]
 
-ghost use Rattle.std.specs.Prelude.{◌≤◌, length};
+ghost use Rattle.std.specs.Prelude.{◌≡◌, ◌≤◌, length, take};
 
 use dtoa::Outcome;
 use hexline::Pattern;
@@ -70,7 +70,7 @@ fn prints64(bits: u64, text: &[u8]) -> bool {
 
 // How many bytes stand before the first space.
 fn before_space(line: &[u8]) -> usize
-    ensures { result ≤ length line.now }
+    ensures { (result ≤ length line.now) × (result ≡ length (take result line.now)) }
 {
     for (i, b) in line.iter().enumerate() {
         if *b == b' ' {
@@ -105,7 +105,7 @@ fn next_byte(file: &mut impl Read) -> u8 {
 
 // Reads a line, and answers how many bytes it has. The list has no empty line, so 0 says that it ended.
 fn read_line(file: &mut impl Read, line: &mut [u8]) -> usize
-    ensures { result ≤ length line.new }
+    ensures { (result ≤ length line.new) × (result ≡ length (take result line.new)) }
 {
     for (len, place) in line.iter_mut().enumerate() {
         let b = next_byte(file);
