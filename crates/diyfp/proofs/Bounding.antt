@@ -20,7 +20,7 @@ use Rattle.rules.specs.Boundaries.{shifted, upper, below, lower}
 use Rattle.theorems.proofs.Boundaries.{Finite, apart, upper-shifted, value_shifted, below-exponent}
 use Rattle.theorems.proofs.Widths.{Sound}
 use Rattle.diyfp.specs.Pairs.{Stands, StandsIn, Becomes, Shiftable, Bounds}
-use Rattle.powers.proofs.Small.{Small}
+use Rattle.patterns.specs.Small.{Small}
 use Rattle.diyfp.proofs.Lowering as lowering
 use Rattle.diyfp.proofs.Lowering.{lowered}
 use Rattle.diyfp.proofs.Standing.{kind}

@@ -23,7 +23,7 @@ use Rattle.theorems.proofs.Boundaries.{Finite, exponent_most}
 use Rattle.theorems.proofs.Power.{Reach, reach}
 use Rattle.diyfp.specs.Pairs.{Stands, StandsIn, Shiftable, Near, Times}
 use Rattle.powers.specs.Powers.{Served, Cached}
-use Rattle.powers.proofs.Small.{Small}
+use Rattle.patterns.specs.Small.{Small}
 
 -- A number near zero is read from an i32 as it was written.
 pub near_read : {z : ℤ} → Near z → read z ≡ z

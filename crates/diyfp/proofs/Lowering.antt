@@ -8,7 +8,7 @@ use Rattle.laws.proofs.Signed.{read, Held, Apart, held, less}
 use Rattle.rules.specs.Width.{Width, off}
 use Rattle.rules.specs.Pattern.{Pair, all_ones}
 use Rattle.diyfp.specs.Pairs.{Stands}
-use Rattle.powers.proofs.Small.{Small}
+use Rattle.patterns.specs.Small.{Small}
 
 module _ {w : Width} {m : Pair} {f : ℕ} {e : ℤ} (small : Small w) (s : Stands w m f e) (most : m.exp < all_ones w + w.N) (d : ℕ)
     (few : d ≤ w.N) where

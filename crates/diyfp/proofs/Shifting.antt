@@ -16,7 +16,7 @@ use Rattle.rules.specs.Pattern.{Pair}
 use Rattle.rules.specs.Boundaries.{shifted}
 use Rattle.theorems.proofs.Boundaries.{Shifted, shifts, no_further}
 use Rattle.diyfp.specs.Pairs.{StandsIn, Becomes, Shiftable}
-use Rattle.powers.proofs.Small.{Small}
+use Rattle.patterns.specs.Small.{Small}
 use Rattle.diyfp.proofs.Lowering.{lowered, beside}
 use Rattle.diyfp.proofs.Standing.{kind}
 

@@ -22,7 +22,7 @@ use Rattle.theorems.proofs.Few.{up_most, down_most}
 use Rattle.theorems.proofs.Scale.{Scales, finite_scales}
 use Rattle.theorems.proofs.Printable.{Printable}
 use Rattle.theorems.proofs.Decimal.{low_some, printed}
-use Rattle.powers.proofs.Small.{Small}
+use Rattle.patterns.specs.Small.{Small}
 use Rattle.digits.specs.Digits.{given, Ready, Generated}
 use Rattle.grisu.specs.Grisu.{ScaledTo, Decided}
 use Rattle.digits.proofs.Given.{given-first}

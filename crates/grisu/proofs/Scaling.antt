@@ -23,7 +23,7 @@ use Rattle.theorems.proofs.Scale.{Scales, finite_scales}
 use Rattle.theorems.proofs.Widths.{Sound}
 use Rattle.diyfp.specs.Pairs.{Stands, StandsIn, Shiftable, Becomes, Bounds, Near, Times}
 use Rattle.powers.specs.Powers.{Served, Cached}
-use Rattle.powers.proofs.Small.{Small}
+use Rattle.patterns.specs.Small.{Small}
 use Rattle.grisu.specs.Grisu.{ScaledTo}
 
 module _ {w : Width} {q : ℕ} (sound : Sound w q) (small : Small w) {m : Pair} (h : Finite w m) where

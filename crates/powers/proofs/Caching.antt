@@ -16,7 +16,7 @@ use Rattle.rules.specs.Power.{k, index, P}
 use Rattle.theorems.proofs.Widths.{Sound}
 use Rattle.theorems.proofs.Power.{Reach, reach}
 use Rattle.powers.specs.Powers.{Served, Indexable, Cached}
-use Rattle.powers.proofs.Small.{Small}
+use Rattle.patterns.specs.Small.{Small}
 use Rattle.powers.proofs.Indexing.{most, k_read, k_indexable}
 
 module _ {w : Width} {q : ℕ} (sound : Sound w q) (small : Small w) {e : ℤ} (p : Served w e) where

@@ -23,7 +23,7 @@ use Rattle.rules.specs.Power.{j_raised, j, k}
 use Rattle.theorems.proofs.Widths.{Sound}
 use Rattle.theorems.proofs.Power.{Least, j_least, j_inside}
 use Rattle.powers.specs.Powers.{Served, Indexable}
-use Rattle.powers.proofs.Small.{Small}
+use Rattle.patterns.specs.Small.{Small}
 
 -- The code's steps from an exponent e to k. First e + N - 3 ..
 abbrev pub raised : Width → ℤ → ℤ

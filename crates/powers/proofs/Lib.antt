@@ -1,4 +1,3 @@
-pub mod Small
 pub mod Slopes
 pub mod Indexing
 pub mod Caching

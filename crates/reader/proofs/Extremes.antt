@@ -4,25 +4,13 @@ use mathlib.Core.Path.{◌≡◌, refl, ◌∙◌}
 use Prim.Native.Nat.{ℕ, zero, suc, ◌+◌, ◌-◌, ◌*◌, ◌^◌, ◌≤◌, ◌<◌}
 use native.Mathlib.Nat.{le_trans, pow-le-pow_right, mul-pos, mul-le-mul_left, mul-le-mul_right, mul-lt-mul_of_pos_right}
 use native.Mathlib.Omega.{arith}
-use lib.Dec.{lit<}
 use lib.Pow.{pow-add}
 use Rattle.laws.proofs.Powers.{ten_pos}
-use Rattle.rules.specs.Width.{Width, w32, w64}
-use Rattle.rules.specs.Pattern.{all_ones}
+use Rattle.rules.specs.Width.{Width}
 use Rattle.rules.specs.Reading.{infinity, low, nearest}
-use Rattle.theorems.proofs.Readable.{readable32, readable64}
-use Rattle.theorems.proofs.Units.{units_of}
 use Rattle.theorems.proofs.Halfway.{midpoint, below_midpoint, above_midpoint, no_more}
 use Rattle.scan.specs.Kept.{Kept}
-use Rattle.reader.specs.Spanned.{Spanned}
-
-pub spanned32 : Spanned w32
-unfolding w32 low infinity all_ones midpoint units_of
-spanned32 = record { readable = readable32; some = lit< tt; least = lit< tt; most = lit< tt }
-
-pub spanned64 : Spanned w64
-unfolding w64 low infinity all_ones midpoint units_of
-spanned64 = record { readable = readable64; some = lit< tt; least = lit< tt; most = lit< tt }
+use Rattle.patterns.specs.Spanned.{Spanned}
 
 -- ---- with the numbers as letters: n / D is the number, M a midpoint, L the units of 1, T the power of ten at an end of the table
 beneath : (n D M L T K : ℕ) → 0 < K → 2 * L < M * T → n ≤ K → K * T ≤ D → 2 * (n * L) < M * D

@@ -19,7 +19,7 @@ use Rattle.fast.specs.declared.Quick.TheVariants as quick
 use Rattle.fast.specs.Quick.{Finds}
 use Rattle.bounds.specs.Around.{Within, AtOnce, Around}
 use Rattle.settle.specs.Settles.{Settles}
-use Rattle.reader.specs.Spanned.{Spanned}
+use Rattle.patterns.specs.Spanned.{Spanned}
 use Rattle.reader.specs.Reads.{Reads}
 use Rattle.reader.specs.Scaled.{Tabled, Scaled}
 use Rattle.reader.proofs.Extremes.{reads_zero, reads_infinity, zero_reads}

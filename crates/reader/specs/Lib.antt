@@ -1,5 +1,4 @@
 pub mod Widths
 pub mod Told
-pub mod Spanned
 pub mod Reads
 pub mod Scaled

@@ -11,7 +11,7 @@ ghost use Rattle.reader.specs.Widths.{width_of};
 ghost use Rattle.reader.specs.Told.{told32, told64};
 ghost use Rattle.reader.specs.Reads.{decimal, Behind, Reads};
 ghost use Rattle.reader.specs.Scaled.{Scaled};
-ghost use Rattle.reader.specs.Spanned.{Spanned};
+ghost use Rattle.patterns.specs.Spanned.{Spanned};
 
 use bounds::Product;
 use closest::Target;

@@ -4,7 +4,7 @@ use Prim.Native.Nat.{ℕ}
 use lib.IntN.{sub_ℕ}
 use Rattle.rules.specs.Width.{w32, off}
 use Rattle.theorems.proofs.Widths.{sound32}
-use Rattle.powers.proofs.Small.{small32}
+use Rattle.patterns.specs.Small.{small32}
 use Rattle.powers.proofs.Indexing.{Steps, most, steps, handy32}
 use Rattle.powers.proofs.power_k32.Goals as goal
 use Rattle.powers.proofs.power_k32.Goals.{Start}

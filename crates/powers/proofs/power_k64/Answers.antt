@@ -4,7 +4,7 @@ use Prim.Native.Nat.{ℕ}
 use lib.IntN.{sub_ℕ}
 use Rattle.rules.specs.Width.{w64, off}
 use Rattle.theorems.proofs.Widths.{sound64}
-use Rattle.powers.proofs.Small.{small64}
+use Rattle.patterns.specs.Small.{small64}
 use Rattle.powers.proofs.Indexing.{Steps, most, steps, handy64}
 use Rattle.powers.proofs.power_k64.Goals as goal
 use Rattle.powers.proofs.power_k64.Goals.{Start}

@@ -1,7 +1,7 @@
 -- `reader::tabled32` meets its contract: at once, or by comparison. Assumes nothing.
 use Rattle.rules.specs.Width.{w32}
 use Rattle.reader.specs.Reads.{decimal}
-use Rattle.reader.proofs.Extremes.{spanned32}
+use Rattle.patterns.specs.Spanned.{spanned32}
 use Rattle.reader.proofs.Magnitudes.{shown_at_once}
 use Rattle.reader.proofs.tabled32.Goals as goal
 

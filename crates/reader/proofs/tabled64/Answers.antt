@@ -3,7 +3,7 @@ use mathlib.Core.Path.{subst}
 use Rattle.rules.specs.Width.{w64}
 use Rattle.fast.specs.Quick.{Finds}
 use Rattle.reader.specs.Reads.{decimal}
-use Rattle.reader.proofs.Extremes.{spanned64}
+use Rattle.patterns.specs.Spanned.{spanned64}
 use Rattle.reader.proofs.Magnitudes.{shown_at_once, found_quickly}
 use Rattle.reader.proofs.tabled64.Goals as goal
 

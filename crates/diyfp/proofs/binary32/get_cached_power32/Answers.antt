@@ -4,7 +4,7 @@ use native.Mathlib.Omega.{arith}
 use Rattle.rules.specs.Tables.{significands32}
 use Rattle.rules.specs.Width.{w32}
 use Rattle.theorems.proofs.Widths.{sound32}
-use Rattle.powers.proofs.Small.{small32}
+use Rattle.patterns.specs.Small.{small32}
 use Rattle.powers.proofs.Caching.{has_index, inside, eightfold, decimal_held, cached}
 use Rattle.diyfp.proofs.binary32.get_cached_power32.Goals as goal
 use Rattle.diyfp.proofs.binary32.get_cached_power32.Goals.{After-index_of-index}

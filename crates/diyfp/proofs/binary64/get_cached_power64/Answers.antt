@@ -4,7 +4,7 @@ use native.Mathlib.Omega.{arith}
 use Rattle.rules.specs.Tables.{significands64}
 use Rattle.rules.specs.Width.{w64}
 use Rattle.theorems.proofs.Widths.{sound64}
-use Rattle.powers.proofs.Small.{small64}
+use Rattle.patterns.specs.Small.{small64}
 use Rattle.powers.proofs.Caching.{has_index, inside, eightfold, decimal_held, cached}
 use Rattle.diyfp.proofs.binary64.get_cached_power64.Goals as goal
 use Rattle.diyfp.proofs.binary64.get_cached_power64.Goals.{After-index_of-index}

@@ -3,7 +3,7 @@ use native.Mathlib.Omega.{arith}
 use lib.Dec.{lit≤}
 use Rattle.rules.specs.Width.{w32}
 use Rattle.theorems.proofs.Printable.{printable32}
-use Rattle.powers.proofs.Small.{small32}
+use Rattle.patterns.specs.Small.{small32}
 use Rattle.grisu.proofs.Deciding.{reread, ready, sum_fits, decided}
 use Rattle.grisu.proofs.binary32.grisu2_32.Goals as goal
 

@@ -3,7 +3,7 @@ use native.Mathlib.Omega.{arith}
 use Rattle.rules.specs.Width.{w32}
 use Rattle.rules.specs.Boundaries.{value}
 use Rattle.theorems.proofs.Widths.{sound32}
-use Rattle.powers.proofs.Small.{small32}
+use Rattle.patterns.specs.Small.{small32}
 use Rattle.grisu.proofs.Scaling.{upper_near, lower_near, value_near, power_near, upper_read, serves, made, one_less, one_more, ordered, shift_fits, shift_natural, shift_small, scales_to}
 use Rattle.grisu.proofs.binary32.scale32.Goals as goal
 

@@ -3,7 +3,7 @@ use native.Mathlib.Omega.{arith}
 use lib.Dec.{lit≤}
 use Rattle.rules.specs.Width.{w64}
 use Rattle.theorems.proofs.Printable.{printable64}
-use Rattle.powers.proofs.Small.{small64}
+use Rattle.patterns.specs.Small.{small64}
 use Rattle.grisu.proofs.Deciding.{reread, ready, sum_fits, decided}
 use Rattle.grisu.proofs.binary64.grisu2_64.Goals as goal
 

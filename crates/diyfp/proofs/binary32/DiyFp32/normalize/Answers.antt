@@ -1,7 +1,7 @@
 -- `diyfp::binary32::DiyFp32::normalize` meets its contract. Assumes nothing.
 use native.Mathlib.Omega.{arith}
 use Rattle.rules.specs.Width.{w32}
-use Rattle.powers.proofs.Small.{small32}
+use Rattle.patterns.specs.Small.{small32}
 use Rattle.diyfp.proofs.Shifting.{falls, fits, becomes}
 use Rattle.diyfp.proofs.binary32.DiyFp32.normalize.Goals as goal
 

@@ -6,7 +6,7 @@ use lib.IntN.{◌-ℤ◌}
 use Rattle.laws.proofs.Signed.{read}
 use Rattle.rules.specs.Width.{w32}
 use Rattle.theorems.proofs.Widths.{sound32}
-use Rattle.powers.proofs.Small.{small32}
+use Rattle.patterns.specs.Small.{small32}
 use Rattle.diyfp.proofs.Bounding.{falls, above, Brought, brings, bounds}
 use Rattle.diyfp.proofs.binary32.DiyFp32.normalized_boundaries.Goals as goal
 use Rattle.diyfp.proofs.binary32.DiyFp32.normalized_boundaries.Goals.{After-below-below}

@@ -6,7 +6,7 @@ use lib.Dec.{lit≤}
 use Rattle.rules.specs.Width.{w64}
 use Rattle.rules.specs.Pattern.{Pair}
 use Rattle.diyfp.specs.Pairs.{Stands}
-use Rattle.powers.proofs.Small.{small64}
+use Rattle.patterns.specs.Small.{small64}
 use Rattle.diyfp.proofs.Bounding.{falls, multiple, hidden, other}
 use Rattle.diyfp.proofs.binary64.DiyFp64.below.Goals as goal
 use Rattle.diyfp.proofs.binary64.DiyFp64.below.Goals.{Start}

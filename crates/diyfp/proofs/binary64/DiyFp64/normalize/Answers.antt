@@ -1,7 +1,7 @@
 -- `diyfp::binary64::DiyFp64::normalize` meets its contract. Assumes nothing.
 use native.Mathlib.Omega.{arith}
 use Rattle.rules.specs.Width.{w64}
-use Rattle.powers.proofs.Small.{small64}
+use Rattle.patterns.specs.Small.{small64}
 use Rattle.diyfp.proofs.Shifting.{falls, fits, becomes}
 use Rattle.diyfp.proofs.binary64.DiyFp64.normalize.Goals as goal
 

@@ -6,7 +6,7 @@ use lib.IntN.{◌-ℤ◌}
 use Rattle.laws.proofs.Signed.{read}
 use Rattle.rules.specs.Width.{w64}
 use Rattle.theorems.proofs.Widths.{sound64}
-use Rattle.powers.proofs.Small.{small64}
+use Rattle.patterns.specs.Small.{small64}
 use Rattle.diyfp.proofs.Bounding.{falls, above, Brought, brings, bounds}
 use Rattle.diyfp.proofs.binary64.DiyFp64.normalized_boundaries.Goals as goal
 use Rattle.diyfp.proofs.binary64.DiyFp64.normalized_boundaries.Goals.{After-below-below}

@@ -1,0 +1,3 @@
+pub mod Small
+pub mod Numbers
+pub mod Spanned
