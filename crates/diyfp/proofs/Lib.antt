@@ -4,4 +4,3 @@ pub mod Splitting
 pub mod Shifting
 pub mod Bounding
 pub mod Multiplying
-pub mod Chaining

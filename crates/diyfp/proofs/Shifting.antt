@@ -1,10 +1,11 @@
 -- A pair shifted left at once, by the number of zeros above its highest bit set, is the rules' pair, shifted bit by bit. Assumes nothing.
-use mathlib.Core.Path.{◌≡◌, ap, ◌∙◌}
-use Prim.Native.Nat.{ℕ, ◌-◌, ◌*◌, ◌^◌, ◌<◌}
-use native.Mathlib.Nat.{mul-le-mul_right, le_antisymm}
+use mathlib.Core.Path.{◌≡◌, sym, ap, ◌∙◌}
+use Prim.Native.Nat.{ℕ, ◌+◌, ◌-◌, ◌*◌, ◌^◌, ◌≤◌, ◌<◌}
+use native.Mathlib.Nat.{mul_assoc, mul-le-mul_right, mul-lt-mul_of_pos_right, le_antisymm}
 use native.Mathlib.Omega.{arith}
 use lib.Count.{count_leading_zeros}
 use lib.IntN.{ℤ, pos, ◌-ℤ◌}
+use lib.Pow.{pow_pos, pow-add, pow_mono}
 use mir.Facts.{to_z_pos}
 use mir.Syntax.{w32}
 use mir.Val.{SFits, to_z}
@@ -91,3 +92,19 @@ module _ {w : Width} {f : ℕ} {e : ℤ} (small : Small w) (p : StandsIn w (Shif
       rw (at_once w m small.some h, ← s.significand, same_distance)
       (beside small s h.most_exponent (count_leading_zeros w.N f) (omega (arith, few))
       (omega (arith, few, h.least_exponent)) _ is)
+
+  -- In a word of 64 bits there are as many zeros more as the word has bits more.
+  pub zeros : w.N ≤ 64 → count_leading_zeros 64 f ≡ count_leading_zeros w.N f + (64 - w.N)
+  zeros word =
+      let z = count_leading_zeros w.N f in
+      let one_less : 63 ≡ w.N - 1 + (64 - w.N) = omega (arith, small.some) in
+      let all : 64 ≡ w.N + (64 - w.N) = omega arith in
+      let top : 2 ^ 63 ≡ 2 ^ (w.N - 1) * 2 ^ (64 - w.N) = ap (λ (x : ℕ). 2 ^ x) one_less ∙ pow-add 2 (w.N - 1) (64 - w.N) in
+      let end : 2 ^ 64 ≡ 2 ^ w.N * 2 ^ (64 - w.N) = ap (λ (x : ℕ). 2 ^ x) all ∙ pow-add 2 w.N (64 - w.N) in
+      let both : f * 2 ^ (z + (64 - w.N)) ≡ f * 2 ^ z * 2 ^ (64 - w.N) = rw pow-add (sym (mul_assoc f (2 ^ z) (2 ^ (64 - w.N)))) in
+      let less : f < 2 ^ 64 = omega (arith, within, pow_mono {i = w.N} {j = 64} word) in
+      one_distance 64 f (count_leading_zeros 64 f) (z + (64 - w.N)) (two_halves 64 (omega arith)) (fills 64 f some less)
+      record {
+        top = rw (both, top) (mul-le-mul_right (2 ^ (64 - w.N)) (fills w.N f some within).top);
+        fits = rw (both, end) (mul-lt-mul_of_pos_right (fills w.N f some within).fits (pow_pos (64 - w.N)));
+      }

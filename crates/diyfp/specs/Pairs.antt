@@ -38,6 +38,11 @@ pub record Bounds (w : Width) (f : ℕ) (e : ℤ) (g : ℕ) (d : ℤ) (h : ℕ) 
 abbrev pub Near : ℤ → Type 0
 Near e = mag e < 2 ^ 13
 
+-- A significand of N bits and an exponent near zero.
+pub record Factor (w : Width) (f : ℕ) (e : ℤ) : Type 0 where
+  pub fits : f < 2 ^ w.N
+  pub near : Near e
+
 -- The pair (h, x) is the product of (f, e) and (g, d).
 pub record Times (w : Width) (f : ℕ) (e : ℤ) (g : ℕ) (d : ℤ) (h : ℕ) (x : ℤ) : Type 0 where
   pub significand : h ≡ product w f g

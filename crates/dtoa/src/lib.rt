@@ -38,7 +38,7 @@ pub fn format32(bits: u32, buf: &mut [u8]) -> Outcome
     if buf.len() < ROOM {
         return Outcome::TooShort;
     }
-    Outcome::Printed(text::print32(bits, buf))
+    Outcome::Printed(text::print(bits, buf))
 }
 
 // Prints any pattern of 64 bits.
@@ -48,7 +48,7 @@ pub fn format64(bits: u64, buf: &mut [u8]) -> Outcome
     if buf.len() < ROOM {
         return Outcome::TooShort;
     }
-    Outcome::Printed(text::print64(bits, buf))
+    Outcome::Printed(text::print(bits, buf))
 }
 
 // Prints a finite pattern of 32 bits, and refuses NaN and infinity.
@@ -58,10 +58,10 @@ pub fn format_finite32(bits: u32, buf: &mut [u8]) -> Outcome
     if buf.len() < ROOM {
         return Outcome::TooShort;
     }
-    if text::bits::is_special32(bits) {
+    if text::bits::is_special(bits) {
         return Outcome::NotFinite;
     }
-    Outcome::Printed(text::print32(bits, buf))
+    Outcome::Printed(text::print(bits, buf))
 }
 
 // Prints a finite pattern of 64 bits, and refuses NaN and infinity.
@@ -71,10 +71,10 @@ pub fn format_finite64(bits: u64, buf: &mut [u8]) -> Outcome
     if buf.len() < ROOM {
         return Outcome::TooShort;
     }
-    if text::bits::is_special64(bits) {
+    if text::bits::is_special(bits) {
         return Outcome::NotFinite;
     }
-    Outcome::Printed(text::print64(bits, buf))
+    Outcome::Printed(text::print(bits, buf))
 }
 
 // Prints any patterns of 32 bits, up to 4,096, with a space between two.

@@ -17,11 +17,12 @@ use Rattle.rules.specs.Boundaries.{upper, lower, value}
 use Rattle.rules.specs.Power.{index, P}
 use Rattle.rules.specs.Product.{product}
 use Rattle.rules.specs.Scaled.{scaled, D}
-use Rattle.theorems.proofs.Boundaries.{Finite, one_exponent, exponent_most}
+use Rattle.theorems.proofs.Boundaries as boundaries
+use Rattle.theorems.proofs.Boundaries.{Finite, one_exponent, exponent_most, upper-shifted, value_shifted}
 use Rattle.theorems.proofs.Power.{reach}
 use Rattle.theorems.proofs.Scale.{Scales, finite_scales}
 use Rattle.theorems.proofs.Widths.{Sound}
-use Rattle.diyfp.specs.Pairs.{Stands, StandsIn, Shiftable, Becomes, Bounds, Near, Times}
+use Rattle.diyfp.specs.Pairs.{Stands, StandsIn, Shiftable, Becomes, Bounds, Near, Factor, Times}
 use Rattle.powers.specs.Powers.{Served, Cached}
 use Rattle.patterns.specs.Small.{Small}
 use Rattle.grisu.specs.Grisu.{ScaledTo}
@@ -47,15 +48,24 @@ module _ {w : Width} {q : ℕ} (sound : Sound w q) (small : Small w) {m : Pair} 
   at_E : {e : ℤ} → e ≡ sub_ℕ E (off w) → Near e
   at_E is = near_difference E (off w) is (omega (arith, most, small.sum)) (omega (arith, small.sum))
 
-  pub upper_near : {f : ℕ} {e : ℤ} → Stands w (upper w m) f e → Near e
-  upper_near s = at_E s.exponent
+  -- The boundaries and the value are factors of N bits, with exponents near zero, and the power's exponent is so.
+  pub upper_factor : {f : ℕ} {e : ℤ} → Stands w (upper w m) f e → Factor w f e
+  upper_factor s = record { fits = omega (arith, s.significand, (upper-shifted w q sound m h).fits); near = at_E s.exponent }
 
-  pub lower_near : {f : ℕ} {e : ℤ} → Stands w (lower w m) f e → Near e
+  pub lower_factor : {f : ℕ} {e : ℤ} → Stands w (lower w m) f e → Factor w f e
   unfolding lower
-  lower_near s = at_E s.exponent
+  lower_factor s =
+      record {
+        fits = omega (arith, s.significand, (boundaries.apart w q sound m h).below-value, (value_shifted w q sound m h).fits);
+        near = at_E s.exponent;
+      }
 
-  pub value_near : {f : ℕ} {e : ℤ} → Stands w (value w m) f e → Near e
-  value_near s = at_E (s.exponent ∙ ap (λ (x : ℕ). sub_ℕ x (off w)) (one_exponent w q sound m h))
+  pub value_factor : {f : ℕ} {e : ℤ} → Stands w (value w m) f e → Factor w f e
+  value_factor s =
+      record {
+        fits = omega (arith, s.significand, (value_shifted w q sound m h).fits);
+        near = at_E (s.exponent ∙ ap (λ (x : ℕ). sub_ℕ x (off w)) (one_exponent w q sound m h));
+      }
 
   pub power_near : {f : ℕ} {e k : ℤ} → Cached w E f e k → Near e
   power_near c =

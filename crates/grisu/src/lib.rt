@@ -1,15 +1,63 @@
 // The digits of a finite magnitude and its decimal exponent, by the Grisu2 algorithm.
 #![tactic(auto)]
 
-pub mod binary32;
-pub mod binary64;
+ghost use Rattle.std.specs.Prelude.{◌≤◌, ◌<◌, length};
+ghost use Rattle.rules.specs.Pattern.{magnitude};
+ghost use Rattle.theorems.proofs.Boundaries.{Finite};
+ghost use Rattle.grisu.specs.Grisu.{ScaledTo, Decided};
 
-pub use binary32::grisu2_32;
-pub use binary64::grisu2_64;
+use diyfp::DiyFp;
+use powers::Powers;
+
+// The scaled numbers of a magnitude: H, W, D and x, and the decimal exponent that their power starts from.
+#[derive(Clone, Copy)]
+struct Scaled {
+    h: u64,
+    w: u64,
+    delta: u64,
+    x: u32,
+    k: i32,
+}
+
+// Scales the boundaries and the value of a finite magnitude by one power of ten.
+fn scale<P: Powers>(pattern: P) -> Scaled
+    requires { Finite P.width (magnitude P.width (P.number pattern)) }
+    ensures { ScaledTo P.width (magnitude P.width (P.number pattern)) result.h result.w result.delta result.x result.k }
+{
+    let v = DiyFp::from_bits(pattern);
+    let b = v.normalized_boundaries::<P>();
+    let c = diyfp::get_cached_power::<P>(b.plus.e);
+    let w = v.normalize::<P>().times::<P>(c.power);
+    let wp = b.plus.times::<P>(c.power);
+    let wm = b.minus.times::<P>(c.power);
+    let h = wp.f - 1;
+    Scaled {
+        h,
+        w: w.f,
+        delta: h - (wm.f + 1),
+        x: (0 - wp.e) as u32,
+        k: c.k,
+    }
+}
 
 // How many digits stand, and the exponent k.
 #[derive(Clone, Copy)]
 pub struct Decimal {
     pub len: usize,
     pub k: i32,
+}
+
+// Writes the digits of a finite magnitude from the buffer's start on.
+pub fn grisu2<P: Powers>(pattern: P, buf: &mut [u8]) -> Decimal
+    requires finite { Finite P.width (magnitude P.width (P.number pattern)) }
+    requires in_bounds { P.digits < length buf.old }
+    requires nine { 9 ≤ length buf.old }
+    ensures { Decided P.width (magnitude P.width (P.number pattern)) result.len result.k buf.old buf.new }
+{
+    let s = scale(pattern);
+    let d = digits::digit_gen64(s.h, s.w, s.delta, s.x, buf);
+    Decimal {
+        len: d.len,
+        k: d.place + s.k,
+    }
 }

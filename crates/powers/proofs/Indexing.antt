@@ -1,12 +1,12 @@
 -- The table's index from an exponent, by a multiplication and two shifts: tested at each exponent. Assumes nothing.
-use mathlib.Core.Path.{◌≡◌, sym, ap, ◌∙◌}
+use mathlib.Core.Path.{◌≡◌, sym, ◌∙◌}
 use mathlib.Core.Logic.{⊎_elim}
-use Prim.Native.Nat.{ℕ, ◌+◌, ◌-◌, ◌*◌, ◌/◌, ◌^◌, ◌≤◌, ◌<◌}
+use Prim.Native.Nat.{ℕ, ◌+◌, ◌-◌, ◌*◌, ◌^◌, ◌≤◌, ◌<◌}
 use native.Mathlib.Nat.{le_antisymm, mul-le-mul_right}
 use native.Mathlib.Omega.{arith}
-use lib.Dec.{T, lit<, lit≤}
+use lib.Dec.{lit<}
 use lib.IntN.{ℤ, pos, nat_abs, sub_ℕ, ◌+ℤ◌, ◌-ℤ◌, ◌*ℤ◌}
-use lib.Signed.{non_neg, shr_z, quot_z}
+use lib.Signed.{shr_z, quot_z}
 use mir.Syntax.{w32}
 use mir.Val.{SFits}
 use Rattle.laws.proofs.Branches.{which}
@@ -15,14 +15,14 @@ use Rattle.laws.proofs.Differences as differences
 use Rattle.laws.proofs.Exponents.{ten_mono}
 use Rattle.laws.proofs.Signed as signed
 use Rattle.laws.proofs.Signed.{read, Is, Held, held, unchanged, also, more, scaled, floored, at_least}
-use Rattle.laws.proofs.Tests.{Test, le, lt, ◌and◌, Holds, up_to, every}
-use Rattle.rules.specs.Width as rules
+use Rattle.laws.proofs.Tests.{Holds, every}
 use Rattle.rules.specs.Width.{Width, off}
 use Rattle.rules.specs.Pattern.{all_ones}
 use Rattle.rules.specs.Power.{j_raised, j, k}
 use Rattle.theorems.proofs.Widths.{Sound}
 use Rattle.theorems.proofs.Power.{Least, j_least, j_inside}
 use Rattle.powers.specs.Powers.{Served, Indexable}
+use Rattle.powers.specs.Handy.{Handy, quotient, test}
 use Rattle.patterns.specs.Small.{Small}
 
 -- The code's steps from an exponent e to k. First e + N - 3 ..
@@ -41,18 +41,6 @@ less_j w e = shr_z (read (multiplied w e)) (2 ^ 18)
 abbrev pub k_of : Width → ℤ → ℤ
 k_of w e = pos (w.tens - 1) -ℤ read (less_j w e)
 
--- -j with m added, as a natural number. E is e with `off` added.
-abbrev quotient : Width → ℕ → ℕ → ℕ
-quotient w m E = ((E + (w.N - 3)) * 78913 + (m * 2 ^ 18 - off w * 78913)) / 2 ^ 18
-
--- That j is the smallest whole number that serves, as a test that computes.
-abbrev pub test : Width → ℕ → ℕ → Test
-test w m E =
-    let r = m + (w.tens + 7) - quotient w m E in
-    lt (quotient w m E) (m + (w.tens + 7))
-    and le (10 ^ (w.tens + 7) * 2 ^ (off w + 3)) (10 ^ r * 2 ^ (E + w.N))
-    and lt (10 ^ (r - 1) * 2 ^ (E + w.N)) (10 ^ (w.tens + 7) * 2 ^ (off w + 3))
-
 -- Only one number is the smallest.
 least_alone : (a b r s : ℕ) → Least a b r → a ≤ 10 ^ s * b → 10 ^ (s - 1) * b < a → 0 < s → r ≡ s
 least_alone a b r s l reached short some =
@@ -60,12 +48,6 @@ least_alone a b r s l reached short some =
     (⊎_elim
     (λ less. absurd (omega (arith, l.reached, mul-le-mul_right b (ten_mono r (s - 1) (omega arith)), short))) (λ more. more)
     (which r s))
-
--- What is asked of a width and m, so that every step is held.
-pub record Handy (w : Width) (m : ℕ) : Type 0 where
-  pub few : m ≤ 2 ^ 12
-  pub whole : off w * 78913 ≤ m * 2 ^ 18
-  pub tested : T (up_to (test w m) (all_ones w + w.S + 1))
 
 -- Every step is held, and the last is k.
 pub record Steps (w : Width) (e : ℤ) (E : ℕ) : Type 0 where
@@ -133,54 +115,6 @@ module _ {w : Width} {q : ℕ} (sound : Sound w q) (small : Small w) (E : ℕ) (
   -- k is read as it was written.
   pub k_read : read (k w E) ≡ k w E
   k_read = unchanged (k-raised w E sound.tens) (omega (arith, few))
-
--- At each of the 279 exponents of 32 bits ..
-pub handy32 : Handy rules.w32 64
-unfolding rules.w32 off all_ones
-handy32 = record { few = lit≤ tt; whole = lit≤ tt; tested = tt }
-
--- .. and at each of the 2,100 of 64 bits.
-pub handy64 : Handy rules.w64 512
-unfolding rules.w64 off all_ones
-handy64 = record { few = lit≤ tt; whole = lit≤ tt; tested = tt }
-
--- The steps from k to the index: each is held, and the division rounds down.
-pub record Floors (k : ℤ) : Type 0 where
-  pub adds : SFits w32 (read (shr_z (read k) 8) +ℤ pos 1)
-  pub natural : T (non_neg (read (read (shr_z (read k) 8) +ℤ pos 1)))
-  pub small : nat_abs (read (read (shr_z (read k) 8) +ℤ pos 1)) < 2 ^ 31
-  pub is : nat_abs (read (read (shr_z (read k) 8) +ℤ pos 1)) ≡ nat_abs (shr_z k 8 +ℤ pos 1)
-
--- That is so for every k that has an index.
-pub floors : {k : ℤ} → Indexable k → Floors k
-floors {k} p =
-    record {
-      adds = rw (own, down) next.fits;
-      natural = rw (own, down, natural) tt;
-      small = rw (own, down, natural) (omega (arith, p.few));
-      is = rw (own, down) (ap nat_abs (unchanged one (omega (arith, p.few))));
-    }
-  where
-    is : Is k p.raised 8
-    is = record { is = p.is }
-
-    own : read k ≡ k
-    own = unchanged is (omega (arith, p.few))
-
-    floor : Is (shr_z k 8) (p.raised / 8) 1
-    floor = floored 8 1 (lit< tt) (omega arith) is
-
-    down : read (shr_z k 8) ≡ shr_z k 8
-    down = unchanged floor (omega (arith, p.few))
-
-    one : Is (shr_z k 8 +ℤ pos 1) (p.raised / 8 + 1) 1
-    one = record { is = rw floor.is (differences.more (p.raised / 8) 1 1) }
-
-    next : Held (shr_z k 8 +ℤ pos 1) (p.raised / 8 + 1) 1
-    next = held one (omega (arith, p.few))
-
-    natural : read (shr_z k 8 +ℤ pos 1) ≡ pos (p.raised / 8)
-    natural = at_least next.back (omega arith) ∙ ap pos (omega arith)
 
 -- A quotient toward zero asks for another entry: for the second and not the first at k = -1.
 pub not_toward_zero : nat_abs (quot_z (sub_ℕ 0 1) (pos 8) +ℤ pos 1) ≡ nat_abs (shr_z (sub_ℕ 0 1) 8 +ℤ pos 1) → ⊥

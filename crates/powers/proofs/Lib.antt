@@ -1,3 +1,4 @@
+pub mod Casts
 pub mod Slopes
 pub mod Indexing
 pub mod Caching

@@ -1,6 +1,6 @@
 -- The binary exponents of a table lie on a line, rounded down: tested at each entry. Assumes nothing.
 use mathlib.Core.Path.{◌≡◌, ◌∙◌}
-use Prim.Native.Nat.{ℕ, ◌+◌, ◌*◌, ◌/◌, ◌^◌, ◌≤◌, ◌<◌}
+use Prim.Native.Nat.{ℕ, ◌+◌, ◌^◌, ◌≤◌, ◌<◌}
 use native.Mathlib.Nat.{le_antisymm, zero-add}
 use native.Mathlib.Omega.{arith}
 use lib.Dec.{T}
@@ -9,16 +9,9 @@ use lib.ListN.{get_or}
 use mir.Syntax.{w32}
 use mir.Val.{to_z}
 use Rattle.laws.proofs.Signed.{read, Held, natural, less}
-use Rattle.laws.proofs.Tests.{Test, le, ◌and◌, Holds, up_to, every}
+use Rattle.laws.proofs.Tests.{Holds, up_to, every}
 use Rattle.rules.specs.Width.{Width}
-
--- The line at i: 8 * log2(10) = 26.57.. places for each entry.
-abbrev pub line : ℕ → ℕ → ℕ
-line start i = (i * 217706 + start) / 2 ^ 13
-
--- That it is the exponent, as a test that computes.
-abbrev pub test : Width → ℕ → ℕ → Test
-test w start i = le (line start i) (get_or w.exponents i 0) and le (get_or w.exponents i 0) (line start i)
+use Rattle.powers.specs.Lines.{line, test}
 
 module _ (w : Width) (start n : ℕ) (t : T (up_to (test w start) n)) (i : ℕ) (inside : i < n) (small : line start i < 2 ^ 31)
     (near : w.twos ≤ 2 ^ 31) where

@@ -1,1 +1,4 @@
 pub mod Powers
+pub mod Lines
+pub mod Handy
+pub mod Tabled

@@ -14,7 +14,7 @@ pub fn print_row32(patterns: &[u32], out: &mut [u8]) -> usize
     let mut at = 0;
     let mut i = 0;
     while i < patterns.len() {
-        at += text::print32(patterns[i], &mut out[at..]);
+        at += text::print(patterns[i], &mut out[at..]);
         i += 1;
         if i < patterns.len() {
             at = put::byte(out, at, b' ');

@@ -11,4 +11,4 @@ returns-then-buf-lt-ROOM c = too_short every w32 _ _ (omega (arith, c.if-buf-lt-
 pub returns : goal.returns
 unfolding refuses
 returns c =
-    printed every w32 _ _ c.if-buf-lt-ROOM.false tt c.print32.ensures
+    printed every w32 _ _ c.if-buf-lt-ROOM.false tt c.print.ensures

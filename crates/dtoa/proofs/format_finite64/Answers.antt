@@ -9,12 +9,12 @@ use Rattle.dtoa.proofs.format_finite64.Goals as goal
 pub returns-then-buf-lt-ROOM : goal.returns-then-buf-lt-ROOM
 returns-then-buf-lt-ROOM c = too_short finite_only w64 _ _ (omega (arith, c.if-buf-lt-ROOM.true))
 
-pub returns-then-is_special64 : goal.returns-then-is_special64
+pub returns-then-is_special : goal.returns-then-is_special
 unfolding refuses
-returns-then-is_special64 c =
-    not_finite finite_only w64 _ _ c.if-buf-lt-ROOM.false (found c.is_special64.ensures c.if-is_special64.true)
+returns-then-is_special c =
+    not_finite finite_only w64 _ _ c.if-buf-lt-ROOM.false (found c.is_special.ensures c.if-is_special.true)
 
 pub returns : goal.returns
 unfolding refuses
 returns c =
-    printed finite_only w64 _ _ c.if-buf-lt-ROOM.false (found_not c.is_special64.ensures c.if-is_special64.false) c.print64.ensures
+    printed finite_only w64 _ _ c.if-buf-lt-ROOM.false (found_not c.is_special.ensures c.if-is_special.false) c.print.ensures

@@ -1,13 +1,14 @@
 -- `text::put_name` meets its contract. Assumes nothing.
+use mathlib.Core.Path.{◌∙◌, sym}
 use Rattle.laws.proofs.Puts.{then}
 use Rattle.rules.specs.Bytes.{bytes}
 use Rattle.text.proofs.put_name.Goals as goal
 
-pub returns-then-infinite : goal.returns-then-infinite
+pub returns-then-is_bare : goal.returns-then-is_bare
 unfolding bytes
-returns-then-infinite c =
-    rw c.if-infinite.true (then c.put_sign-at.ensures c.three.ensures)
+returns-then-is_bare g c =
+    rw (sym c.is_bare.ensures ∙ c.if-is_bare.true, ← c.is_negative.ensures) (then c.put_sign-at.ensures c.three.ensures)
 
 pub returns : goal.returns
 unfolding bytes
-returns c = rw c.if-infinite.false c.three-2.ensures
+returns g c = rw (sym c.is_bare.ensures ∙ c.if-is_bare.false) c.three-2.ensures
