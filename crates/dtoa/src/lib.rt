@@ -87,5 +87,5 @@ pub fn format_row32(patterns: &[u32], out: &mut [u8]) -> RowOutcome
     if out.len() < ROW_ROOM * patterns.len() {
         return RowOutcome::TooShort;
     }
-    RowOutcome::Printed(row::print_row32(patterns, out))
+    RowOutcome::Printed(row::print_row(patterns, out))
 }

@@ -1,9 +1,11 @@
 -- Texts put one behind the other, a space between two, are their row. Assumes nothing.
-use mathlib.Core.List.{List, [], ◌∷◌}
-use mathlib.Core.Path.{◌≡◌, refl}
+use mathlib.Core.List.{List, [], ◌∷◌, ◌++◌, map}
+use mathlib.Core.Path.{◌≡◌, refl, sym, ap, ◌∙◌}
 use Prim.Native.Nat.{ℕ, ◌+◌, ◌-◌, ◌*◌, ◌≤◌, ◌<◌}
 use native.Mathlib.Omega.{arith}
-use lib.ListN.{length, get_or, drop}
+use lib.ListN.{length, get_or, drop, length-append, length-map, get_or-append}
+use lib.Seq.{get_or_at}
+use Rattle.std.proofs.lemmas.List.{get_or-map}
 use Rattle.laws.specs.Puts.{Puts}
 use Rattle.laws.proofs.Puts.{kept}
 use Rattle.laws.proofs.Rest.{Rest, begin, step, finished}
@@ -14,6 +16,19 @@ use Rattle.rules.specs.Row.{row, row_room}
 use Rattle.theorems.proofs.Printable.{Printable}
 use Rattle.theorems.proofs.TextLength.{text-length}
 use Rattle.theorems.proofs.Rows.{row_none, row_last, row_more}
+
+-- Numbers of a list that ends with l: how many they are, and those before the last.
+module _ {X : Type 0} (f : X → ℕ) (xs front : List X) (l : X) (is : xs ≡ front ++ (l ∷ [])) where
+  pub count : length (map f xs) ≡ length front + 1
+  count = rw (is, length-map) (length-append front (l ∷ []))
+
+  pub before_last : (i : ℕ) (x : X) → x ≡ get_or front i x → i < length front → get_or (map f xs) i 0 ≡ f x
+  before_last i x at less =
+      get_or-map f xs i x 0 (rw is (simp length-append (omega arith)))
+      ∙ ap f (rw is (get_or-append front (l ∷ []) x i less) ∙ sym at)
+
+  pub last_one : (i : ℕ) → length front ≡ i → get_or (map f xs) i 0 ≡ f l
+  last_one i at = get_or-map f xs i l 0 (rw is (simp length-append (omega arith))) ∙ ap f (rw is (get_or_at front l [] l i at))
 
 -- Before pattern i: what is left is the row from there on, and there is room for it.
 pub record Before (w : Width) (vs first : List ℕ) (i : ℕ) (out : List ℕ) (at : ℕ) : Type 0 where

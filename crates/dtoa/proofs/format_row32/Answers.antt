@@ -1,5 +1,6 @@
 -- `dtoa::format_row32` meets its contract. Assumes nothing.
 use native.Mathlib.Omega.{arith}
+use Rattle.std.proofs.lemmas.List.{map-id}
 use Rattle.rules.specs.Width.{w32}
 use Rattle.dtoa.proofs.RowOutcomes.{too_many, too_short, printed}
 use Rattle.dtoa.proofs.format_row32.Goals as goal
@@ -12,4 +13,4 @@ returns-then-out-patterns c = too_short w32 _ _ (omega (arith, c.if-patterns-gt-
 
 pub returns : goal.returns
 returns c =
-    printed w32 _ _ (omega arith) (omega arith) c.print_row32.ensures
+    printed w32 _ _ (omega arith) (omega arith) (rw map-id at c.print_row.ensures)
