@@ -135,11 +135,3 @@ pub fn digit_gen64(h: u64, w: u64, delta: u64, x: u32, buf: &mut [u8]) -> Digits
         place: f.place,
     }
 }
-
-// The same at 32 bits: a u64 holds every number that comes, and the numbers alone decide.
-pub fn digit_gen32(h: u32, w: u32, delta: u32, x: u32, buf: &mut [u8]) -> Digits
-    requires { Ready h w delta x (length buf.old) }
-    ensures { Generated (first (given h w delta x)) result.len result.place buf.old buf.new }
-{
-    digit_gen64(h as u64, w as u64, delta as u64, x, buf)
-}
