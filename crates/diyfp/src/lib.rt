@@ -82,15 +82,10 @@ impl DiyFp {
         ensures { Becomes P.width (below P.width) self.f self.e result.f result.e }
     {
         let hidden = hidden_bit::<P>();
-        if self.f == hidden {
-            return DiyFp {
-                f: (self.f << 2) - 1,
-                e: self.e - 2,
-            };
-        }
+        let by = if self.f == hidden { 2 } else { 1 };
         DiyFp {
-            f: (self.f << 1) - 1,
-            e: self.e - 1,
+            f: (self.f << by) - 1,
+            e: self.e - by,
         }
     }
 
