@@ -31,23 +31,16 @@ pub fn zeros(buf: &mut [u8], at: usize, n: usize) -> usize
     ensures { Puts (rules.zeros n) buf.old at buf.new result }
 {
     let end = at + n;
-    let mut next = at;
-    while next < end {
-        next = byte(buf, next, b'0');
-    }
-    next
+    buf[at..end].fill(b'0');
+    end
 }
 
-// Puts the bytes between two places `by` places further up, the last first, and answers the place behind them.
+// Puts the bytes between two places `by` places further up, and answers the place behind them.
 pub fn moved(buf: &mut [u8], from: usize, end: usize, by: usize) -> usize
     requires from_le_end { from ≤ end }
     requires by_in_bounds { end + by ≤ length buf.old }
     ensures { Puts (slice from end buf.old) buf.old (from + by) buf.new result }
 {
-    let mut i = end;
-    while from < i {
-        i -= 1;
-        buf[i + by] = buf[i];
-    }
+    buf.copy_within(from..end, from + by);
     end + by
 }

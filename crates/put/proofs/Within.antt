@@ -1,0 +1,30 @@
+-- What the library's ways to write a part of a list put there. Assumes nothing.
+use mathlib.Core.Path.{◌≡◌, refl}
+use mathlib.Core.List.{List, ◌++◌, append_assoc}
+use Prim.Native.Nat.{ℕ, ◌+◌, ◌-◌, ◌≤◌}
+use native.Mathlib.Omega.{arith}
+use lib.ListN.{length, take, drop, replicate, length-replicate, length-take, length-drop}
+use lib.Seq.{drop-drop, slice, length-slice, paste}
+use Rattle.std.proofs.lemmas.Slice.{between_is}
+use borrow.Rule.Slice.PartMut.{put_mid}
+use Rattle.laws.specs.Puts.{placed, Puts}
+
+-- A list of n elements in the stead of those from a place on.
+within : {A : Type 0} (t out : List A) (at n : ℕ) → length t ≡ n → at + n ≤ length out → Puts t out at (take at out ++ (t ++ drop (at + n) out)) (at + n)
+unfolding placed
+within t out at n long room = record { room = omega (arith, long); behind = omega (arith, long); elements = rw long refl }
+
+-- A part that is filled with one element.
+pub filled : {A : Type 0} (y : A) (out last : List A) (at n : ℕ) → at + n ≤ length out → last ≡ replicate (length (take n (drop at out))) y →
+    Puts (replicate n y) out at (put_mid at n out last) (at + n)
+filled y out last at n room is =
+    let whole : length (take n (drop at out)) ≡ n = simp (length-take, length-drop) (omega arith) in
+    rw (is, whole, drop-drop n at out) (within (replicate n y) out at n (length-replicate n y) room)
+
+-- A part that is copied to another place.
+pub copied : {A : Type 0} (out : List A) (from end by : ℕ) → from ≤ end → end + by ≤ length out →
+    Puts (slice from end out) out (from + by) (paste out (from + by) (drop from out) (end - from)) (end + by)
+copied {A} out from end by ordered room =
+    let behind : from + by + (end - from) ≡ end + by = omega arith in
+    let put = within {A = A} (slice from end out) out (from + by) (end - from) (length-slice from end out (omega arith)) (omega arith) in
+    rw (between_is out from end, append_assoc, ← behind) put
