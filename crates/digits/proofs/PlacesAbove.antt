@@ -1,7 +1,7 @@
 -- The places at and above zero, tried one after the other. Assumes nothing.
 use mathlib.Core.Path.{◌≡◌, sym, ◌∙◌}
 use mathlib.Core.List.{List, [], ◌∷◌}
-use Prim.Native.Nat.{ℕ, suc, ◌+◌, ◌*◌, ◌/◌, ◌%◌, ◌^◌, ◌≤◌, ◌<◌}
+use Prim.Native.Nat.{ℕ, suc, ◌+◌, ◌-◌, ◌*◌, ◌/◌, ◌%◌, ◌^◌, ◌≤◌, ◌<◌}
 use native.Mathlib.Nat.{div-div-eq-div-mul, div-lt_iff_lt-mul, mod-eq_of_lt, mod-le, mod-lt, mul_comm, pow-suc, pow-succ', zero-lt-suc}
 use native.Mathlib.Omega.{arith}
 use lib.Arith.{digits_div, digits_mod, mod-mul}
@@ -67,6 +67,11 @@ pub record Turn (h delta x k len rest left below : ℕ) (old new : List ℕ) : T
   pub left_is : left ≡ h / 2 ^ x % 10 ^ k
   pub below_is : below ≡ h % 2 ^ x
   pub fails : delta < rest
+
+-- The turn that tries the place before k.
+pub begun : {h delta x k len rest left below : ℕ} {old new : List ℕ} → 0 < k → Turn h delta x k len rest left below old new →
+    Turn h delta x (suc (k - 1)) len rest left below old new
+begun {h} {delta} {x} {k} some so = let is : suc (k - 1) ≡ k = omega arith in rw is so
 
 module _ {h delta x room : ℕ} (ready : ReadyAbove h delta x room) where
   -- The digits at and above zero fit a u32, and are at most nine.

@@ -1,10 +1,10 @@
--- `digits::places_under` meets its contract. Assumes nothing.
+-- `digits::Scaled::places_under` meets its contract. Assumes nothing.
 use mathlib.Core.Path.{refl}
 use native.Mathlib.Omega.{arith}
 use Rattle.laws.proofs.Puts.{kept}
 use Rattle.digits.proofs.PlacesUnder.{none_tried, digit_less, rest_small, not_far, next_less, one_tried}
-use Rattle.digits.proofs.places_under.Goals as goal
-use Rattle.digits.proofs.places_under.Goals.{In-loop-room}
+use Rattle.digits.proofs.Scaled.places_under.Goals as goal
+use Rattle.digits.proofs.Scaled.places_under.Goals.{In-loop-room}
 
 -- A turn, in which the place that was tried last has failed.
 abbrev Turn : Type 0
