@@ -28,24 +28,13 @@ fn write_small(n: u32, buf: &mut [u8]) -> usize
     put::digit(buf, ones, n % 10)
 }
 
-// How far k is from zero.
-fn magnitude(k: i32) -> u32
-    requires { nat_abs k < 1000 }
-    ensures { result ≡ nat_abs k }
-{
-    if k < 0 {
-        return (0 - k) as u32;
-    }
-    k as u32
-}
-
 // Writes an exponent of up to three digits, and answers its length.
 pub fn write_exponent(k: i32, buf: &mut [u8]) -> usize
     requires k_bound { nat_abs k < 1000 }
     requires in_bounds { 4 ≤ length buf.old }
     ensures { Puts (exponent k) buf.old 0 buf.new result }
 {
-    let n = magnitude(k);
+    let n = k.unsigned_abs();
     if k < 0 {
         let at = put::byte(buf, 0, b'-');
         return at + write_small(n, &mut buf[at..]);
@@ -77,15 +66,6 @@ fn scientific(buf: &mut [u8], len: usize, e: i32) -> usize
     put_exponent(buf, end, e)
 }
 
-// Puts `.0` at a place, and answers the place behind it.
-fn put_point_zero(buf: &mut [u8], at: usize) -> usize
-    requires { at + 2 ≤ length buf.old }
-    ensures { Puts (bytes ".0") buf.old at buf.new result }
-{
-    let next = put::byte(buf, at, b'.');
-    put::byte(buf, next, b'0')
-}
-
 // Lays digits out with zeros behind them: 1234e7 as 12340000000.0.
 fn whole(buf: &mut [u8], len: usize, zeros: usize) -> usize
     requires laying { Laying len (length buf.old) }
@@ -93,7 +73,7 @@ fn whole(buf: &mut [u8], len: usize, zeros: usize) -> usize
     ensures { Puts (take len buf.old ++ (rules.zeros zeros ++ bytes ".0")) buf.old 0 buf.new result }
 {
     let next = put::zeros(buf, len, zeros);
-    put_point_zero(buf, next)
+    put::bytes(buf, next, b".0")
 }
 
 // Lays digits out with a point behind the first kk of them: 1234e-2 as 12.34.
@@ -155,7 +135,7 @@ pub fn prettify(buf: &mut [u8], len: usize, k: i32) -> usize
     requires k_bound { nat_abs k < 900 }
     ensures { Puts (layout (take len buf.old) k) buf.old 0 buf.new result }
 {
-    let n = magnitude(k) as usize;
+    let n = k.unsigned_abs() as usize;
     if k < 0 {
         return downward(buf, len, n);
     }

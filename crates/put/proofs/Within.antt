@@ -14,6 +14,11 @@ within : {A : Type 0} (t out : List A) (at n : ℕ) → length t ≡ n → at + 
 unfolding placed
 within t out at n long room = record { room = omega (arith, long); behind = omega (arith, long); elements = rw long refl }
 
+-- A part that a list of its length replaces.
+pub replaced : {A : Type 0} (t out last : List A) (at : ℕ) → at + length t ≤ length out → last ≡ t →
+    Puts t out at (put_mid at (length t) out last) (at + length t)
+replaced t out last at room is = rw (is, drop-drop (length t) at out) (within t out at (length t) refl room)
+
 -- A part that is filled with one element.
 pub filled : {A : Type 0} (y : A) (out last : List A) (at n : ℕ) → at + n ≤ length out → last ≡ replicate (length (take n (drop at out))) y →
     Puts (replicate n y) out at (put_mid at n out last) (at + n)

@@ -25,6 +25,16 @@ pub fn digit(buf: &mut [u8], at: usize, d: u32) -> usize
     byte(buf, at, b'0' + d as u8)
 }
 
+// Puts the bytes of a text at a place, and answers the place behind them.
+pub fn bytes(buf: &mut [u8], at: usize, text: &[u8]) -> usize
+    requires { at + length text.now ≤ length buf.old }
+    ensures { Puts text.now buf.old at buf.new result }
+{
+    let end = at + text.len();
+    buf[at..end].copy_from_slice(text);
+    end
+}
+
 // Puts n zeros at a place, and answers the place behind them.
 pub fn zeros(buf: &mut [u8], at: usize, n: usize) -> usize
     requires { at + n ≤ length buf.old }

@@ -7,10 +7,10 @@ use Rattle.layout.proofs.write_exponent.Goals as goal
 
 pub returns-then-k-lt0 : goal.returns-then-k-lt0
 returns-then-k-lt0 c =
-    rw (exponent-below _ (simp (to_z-of_z c.ranges.k) at c.if-k-lt0.true), ← (rw (to_z-of_z c.ranges.k) at c.magnitude-n.ensures))
+    rw (exponent-below _ (simp (to_z-of_z c.ranges.k) at c.if-k-lt0.true), ← (rw (to_z-of_z c.ranges.k) at c.unsigned_abs-n.ensures.value))
     (then c.byte-at.ensures (part _ (omega arith) c.write_small.ensures))
 
 pub returns : goal.returns
 returns c =
-    rw (exponent_upward _ (simp (to_z-of_z c.ranges.k) at c.if-k-lt0.false), ← (rw (to_z-of_z c.ranges.k) at c.magnitude-n.ensures))
+    rw (exponent_upward _ (simp (to_z-of_z c.ranges.k) at c.if-k-lt0.false), ← (rw (to_z-of_z c.ranges.k) at c.unsigned_abs-n.ensures.value))
     c.write_small-2.ensures
