@@ -1,83 +1,51 @@
 // A line of hex digits as a pattern.
 #![tactic(auto)]
 
-ghost use Rattle.std.specs.Prelude.{true, false, ◌≡◌, ◌+◌, ◌*◌, ◌^◌, ◌≤◌, ◌<◌, length};
-ghost use Rattle.hexline.specs.Hex.{digit, all_digits, value_from, pattern_of};
+ghost use Rattle.std.specs.Prelude.{◌≡◌, ◌^◌, ◌≤◌, ◌<◌, length, IfSome};
+ghost use Rattle.hexline.specs.Hex.{digit, number_from, pattern_of};
 
-// What a line says: a pattern of 32 bits, one of 64, or neither.
-#[derive(Clone, Copy)]
+// What a line says: a pattern of 32 bits, or one of 64.
+#[derive(Clone, Copy, PartialEq, Eq, Debug)]
 pub enum Pattern {
     Single(u32),
     Double(u64),
-    Neither,
 }
 
-// The value of a hex digit, or 16 of any other byte.
-fn hex_digit(b: u8) -> u8
-    ensures { result ≡ digit b }
+// The value of a hex digit.
+#[tactic(auto, unfolding(crate::specs::Hex::digit))]
+fn hex_digit(b: u8) -> Option<u8>
+    ensures value { result ≡ digit b }
+    ensures less { IfSome result (λ d. d < 16) }
 {
-    if b < 48 {
-        return 16;
+    match b {
+        b'0'..=b'9' => Some(b - b'0'),
+        b'A'..=b'F' => Some(b - b'A' + 10),
+        b'a'..=b'f' => Some(b - b'a' + 10),
+        _ => None,
     }
-    if b < 58 {
-        return b - 48;
-    }
-    if b < 65 {
-        return 16;
-    }
-    if b < 71 {
-        return b - 55;
-    }
-    if b < 97 {
-        return 16;
-    }
-    if b < 103 {
-        return b - 87;
-    }
-    16
-}
-
-// Whether all bytes of a line are hex digits.
-fn is_hex(line: &[u8]) -> bool
-    ensures { result ≡ all_digits line.now }
-{
-    let mut i: usize = 0;
-    while i < line.len() {
-        if hex_digit(line[i]) == 16 {
-            return false;
-        }
-        i += 1;
-    }
-    true
 }
 
 // The number that up to 16 hex digits make.
-fn hex_value(line: &[u8]) -> u64
-    requires line_len_bound { length line.now ≤ 16 }
-    requires all_hex { all_digits line.now ≡ true }
-    ensures { (result ≡ value_from 0 line.now) × (result < 16 ^ length line.now) }
+fn hex_number(line: &[u8]) -> Option<u64>
+    requires { length line.now ≤ 16 }
+    ensures number { result ≡ number_from 0 line.now }
+    ensures fits { IfSome result (λ v. v < 16 ^ length line.now) }
 {
     let mut v: u64 = 0;
-    let mut i: usize = 0;
-    while i < line.len() {
-        v = v * 16 + hex_digit(line[i]) as u64;
-        i += 1;
+    for b in line {
+        v = v * 16 + hex_digit(*b)? as u64;
     }
-    v
+    Some(v)
 }
 
 // What a line says, without its line end.
-pub fn parse(line: &[u8]) -> Pattern
+#[tactic(auto, unfolding(crate::specs::Hex::pattern_of, crate::specs::Hex::as_pattern))]
+pub fn parse(line: &[u8]) -> Option<Pattern>
     ensures { result ≡ pattern_of line.now }
 {
-    if !is_hex(line) {
-        return Pattern::Neither;
+    match line.len() {
+        8 => Some(Pattern::Single(hex_number(line)? as u32)),
+        16 => Some(Pattern::Double(hex_number(line)?)),
+        _ => None,
     }
-    if line.len() == 8 {
-        return Pattern::Single(hex_value(line) as u32);
-    }
-    if line.len() == 16 {
-        return Pattern::Double(hex_value(line));
-    }
-    Pattern::Neither
 }
