@@ -1,5 +1,5 @@
 -- What the library's ways to write a part of a list put there. Assumes nothing.
-use mathlib.Core.Path.{◌≡◌, refl}
+use mathlib.Core.Path.{◌≡◌, refl, ap, ◌∙◌}
 use mathlib.Core.List.{List, ◌++◌, append_assoc}
 use Prim.Native.Nat.{ℕ, ◌+◌, ◌-◌, ◌≤◌}
 use native.Mathlib.Omega.{arith}
@@ -14,17 +14,18 @@ within : {A : Type 0} (t out : List A) (at n : ℕ) → length t ≡ n → at + 
 unfolding placed
 within t out at n long room = record { room = omega (arith, long); behind = omega (arith, long); elements = rw long refl }
 
--- A part that a list of its length replaces.
-pub replaced : {A : Type 0} (t out last : List A) (at : ℕ) → at + length t ≤ length out → last ≡ t →
-    Puts t out at (put_mid at (length t) out last) (at + length t)
-replaced t out last at room is = rw (is, drop-drop (length t) at out) (within t out at (length t) refl room)
+-- A part of k elements that a list of its length replaces.
+pub replaced : {A : Type 0} (t : List A) {out last : List A} {at k next : ℕ} → k ≡ length t → next ≡ at + length t → at + length t ≤ length out →
+    last ≡ t → Puts t out at (put_mid at k out last) next
+replaced t {out} {last} {at} wide behind room is = rw (is, wide, behind, drop-drop (length t) at out) (within t out at (length t) refl room)
 
--- A part that is filled with one element.
-pub filled : {A : Type 0} (y : A) (out last : List A) (at n : ℕ) → at + n ≤ length out → last ≡ replicate (length (take n (drop at out))) y →
-    Puts (replicate n y) out at (put_mid at n out last) (at + n)
-filled y out last at n room is =
+-- A part of k elements that is filled with one.
+pub filled : {A : Type 0} (y : A) (n : ℕ) {out last : List A} {at k next : ℕ} → k ≡ n → next ≡ at + n → at + n ≤ length out →
+    last ≡ replicate (length (take k (drop at out))) y → Puts (replicate n y) out at (put_mid at k out last) next
+filled y n {out} {last} {at} wide behind room is =
+    let long : length (replicate n y) ≡ n = length-replicate n y in
     let whole : length (take n (drop at out)) ≡ n = simp (length-take, length-drop) (omega arith) in
-    rw (is, whole, drop-drop n at out) (within (replicate n y) out at n (length-replicate n y) room)
+    replaced (replicate n y) (omega (arith, wide, long)) (omega (arith, behind, long)) (omega (arith, room, long)) (is ∙ ap (λ (m : ℕ). replicate m y) (rw wide whole))
 
 -- A part that is copied to another place.
 pub copied : {A : Type 0} (out : List A) (from end by : ℕ) → from ≤ end → end + by ≤ length out →
