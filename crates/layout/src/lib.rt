@@ -52,6 +52,9 @@ fn put_exponent(buf: &mut [u8], at: usize, e: i32) -> usize
     next + write_exponent(e, &mut buf[next..])
 }
 
+// The buffer and the digits' count travel together below, and no struct holds them: with the lent buffer in a field, each method would
+// have to say that the field keeps its reference, and what it left behind it only at the struct's end.
+
 // Lays digits out with an exponent: 1e30, and 1234e30 as 1.234e33.
 fn scientific(buf: &mut [u8], len: usize, e: i32) -> usize
     requires laying { Laying len (length buf.old) }

@@ -143,7 +143,7 @@ fn closer(unit: u64, room: u64, distance: u64, rest: u64) -> bool
     next - distance < distance - rest
 }
 
-// How often the last digit falls.
+// How often the last digit falls. That is not known before, so the loop goes by its test: the count is the answer, and no index.
 pub fn grisu_round(unit: u64, room: u64, distance: u64, rest: u64) -> u8
     requires rest_le_room { rest ≤ room }
     requires room_bound { room < rest + 10 * unit }
