@@ -18,7 +18,8 @@ use Rattle.rules.specs.Layout.{zeros, exponent, scientific, by_rule, layout}
 use Rattle.rules.specs.Text.{shown, signed, text}
 use Rattle.rules.specs.Answer.{every, finite_only, refuses, number, Answer, answering, leaving, answer, after}
 use Rattle.dtoa.specs.Meets.{Meets}
-use Rattle.dtoa.specs.declared.Outcome.TheVariants.{Printed, TooShort, NotFinite}
+use Rattle.std.specs.Prelude.{Ok, Err}
+use Rattle.dtoa.specs.declared.Refusal.TheVariants.{TooShort, NotFinite}
 
 -- A buffer of 25 bytes 42.
 abbrev pub lent : List ℕ
@@ -42,28 +43,28 @@ unfolding leaving after number refuses bytes
 has_to_leave = rw e64_text
 
 -- One that refuses everything, as too short or as not finite.
-pub not_all_refused : {last : List ℕ} → Meets every w64 e64 lent TooShort last → ⊥
+pub not_all_refused : {last : List ℕ} → Meets every w64 e64 lent (Err TooShort) last → ⊥
 not_all_refused m = omega (arith, ap (λ (a : Answer). a.number) (m.answers ∙ has_to_answer))
 
-pub not_all_not_finite : {last : List ℕ} → Meets every w64 e64 lent NotFinite last → ⊥
+pub not_all_not_finite : {last : List ℕ} → Meets every w64 e64 lent (Err NotFinite) last → ⊥
 not_all_not_finite m = omega (arith, ap (λ (a : Answer). a.number) (m.answers ∙ has_to_answer))
 
 -- One that always prints `0.0`.
-pub not_always_zero : Meets every w64 e64 lent (Printed 3) (bytes "0.0" ++ drop 3 lent) → ⊥
+pub not_always_zero : Meets every w64 e64 lent (Ok 3) (bytes "0.0" ++ drop 3 lent) → ⊥
 not_always_zero m = omega (arith, ap (λ (a : Answer). a.len) (m.answers ∙ has_to_answer))
 
 -- One that touches no byte, whatever length it tells.
-pub not_untouched : (n : ℕ) → Meets every w64 e64 lent (Printed n) lent → ⊥
+pub not_untouched : (n : ℕ) → Meets every w64 e64 lent (Ok n) lent → ⊥
 unfolding bytes
 not_untouched n m = omega (arith, ap (λ (l : List ℕ). get_or l 0 0) (m.bytes ∙ has_to_leave))
 
 -- One that is right at the first digit and guesses a later one.
-pub not_guessed : Meets every w64 e64 lent (Printed 7) (bytes "2.71829" ++ drop 7 lent) → ⊥
+pub not_guessed : Meets every w64 e64 lent (Ok 7) (bytes "2.71829" ++ drop 7 lent) → ⊥
 unfolding bytes
 not_guessed m = omega (arith, ap (λ (l : List ℕ). get_or l 6 0) (m.bytes ∙ has_to_leave))
 
 -- One that tells a false length, with every byte right.
-pub not_false_length : (n : ℕ) → (n ≡ 7 → ⊥) → Meets every w64 e64 lent (Printed n) (bytes "2.71828" ++ drop 7 lent) → ⊥
+pub not_false_length : (n : ℕ) → (n ≡ 7 → ⊥) → Meets every w64 e64 lent (Ok n) (bytes "2.71828" ++ drop 7 lent) → ⊥
 not_false_length n other m = other (ap (λ (a : Answer). a.len) (m.answers ∙ has_to_answer))
 
 -- 0.1 in binary32, and its text.
@@ -79,14 +80,14 @@ unfolding answering answer number refuses bytes
 tenth32_answer = rw tenth32_text
 
 -- One that prints 32 bits by widening them to 64.
-pub not_widened : Meets every w32 tenth32 lent (Printed 19) (bytes "0.10000000149011612" ++ drop 19 lent) → ⊥
+pub not_widened : Meets every w32 tenth32 lent (Ok 19) (bytes "0.10000000149011612" ++ drop 19 lent) → ⊥
 not_widened m = omega (arith, ap (λ (a : Answer). a.len) (m.answers ∙ tenth32_answer))
 
 -- One that lets an infinity through the entry for finite patterns, or refuses it before the buffer is looked at.
-pub not_let_through : {last : List ℕ} (n : ℕ) → Meets finite_only w64 0x7ff0000000000000 lent (Printed n) last → ⊥
+pub not_let_through : {last : List ℕ} (n : ℕ) → Meets finite_only w64 0x7ff0000000000000 lent (Ok n) last → ⊥
 unfolding answering answer number refuses special biased all_ones w64
 not_let_through n m = omega (arith, ap (λ (a : Answer). a.number) m.answers)
 
-pub not_looked_at_second : {last : List ℕ} → Meets finite_only w64 0x7ff0000000000000 (replicate 24 42) NotFinite last → ⊥
+pub not_looked_at_second : {last : List ℕ} → Meets finite_only w64 0x7ff0000000000000 (replicate 24 42) (Err NotFinite) last → ⊥
 unfolding answering answer number refuses special biased all_ones w64
 not_looked_at_second m = omega (arith, ap (λ (a : Answer). a.number) m.answers)

@@ -18,15 +18,15 @@ use Rattle.theorems.proofs.Results.{is_printed, put_length, text_put, rest_kept}
 use Rattle.theorems.proofs.Rows.{FinitePatterns, few_patterns, row-length, row_item, row_restored, same_row}
 use Rattle.dtoa.specs.Meets.{Meets}
 use Rattle.dtoa.specs.MeetsRow.{MeetsRow}
-use Rattle.dtoa.specs.declared.Outcome.TheVariants as one
-use Rattle.dtoa.specs.declared.RowOutcome.TheVariants.{Printed}
+use Rattle.std.specs.Prelude.{Ok}
+
 use Rattle.dtoa.proofs.Calls.{text_definition}
 use Rattle.dtoa.proofs.RowOutcomes.{right}
 
 -- The texts that calls for single patterns left, one for each pattern.
 pub data OneByOne (w : Width) : List ℕ → List (List ℕ) → Type 0 where
   none : OneByOne w [] []
-  more : {v : ℕ} {vs : List ℕ} {ts : List (List ℕ)} (before last : List ℕ) (n : ℕ) → Meets every w v before (one.Printed n) last →
+  more : {v : ℕ} {vs : List ℕ} {ts : List (List ℕ)} (before last : List ℕ) (n : ℕ) → Meets every w v before (Ok n) last →
       OneByOne w vs ts → OneByOne w (v ∷ vs) (take n last ∷ ts)
 
 texts : {w : Width} {vs : List ℕ} {ts : List (List ℕ)} → OneByOne w vs ts → ts ≡ map (text w) vs
@@ -34,7 +34,7 @@ texts none = refl
 texts {w} (more {v} before last n m ms) = ap₂ (λ (t : List ℕ) (ts : List (List ℕ)). t ∷ ts) (text_definition every w v before last n m) (texts ms)
 
 -- A call that printed n bytes.
-module _ (w : Width) (vs before last : List ℕ) (n : ℕ) (m : MeetsRow w vs before (Printed n) last) where
+module _ (w : Width) (vs before last : List ℕ) (n : ℕ) (m : MeetsRow w vs before (Ok n) last) where
   -- The text definition: the bytes up to the length are the patterns' row.
   pub row_definition : take n last ≡ row w vs
   row_definition = text_put (right w vs before m)
@@ -58,7 +58,7 @@ module _ (w : Width) (vs before last : List ℕ) (n : ℕ) (m : MeetsRow w vs be
     row_length_most = omega (arith, row_length_bound, few_patterns (length vs) (length before) (is_printed (right w vs before m)))
 
     -- Cut at its spaces, it gives at each pattern's place the text that a call for the pattern leaves.
-    pub item_by_itself : (i : ℕ) → i < length vs → (b l : List ℕ) (k : ℕ) → Meets every w (get_or vs i 0) b (one.Printed k) l →
+    pub item_by_itself : (i : ℕ) → i < length vs → (b l : List ℕ) (k : ℕ) → Meets every w (get_or vs i 0) b (Ok k) l →
         get_or (cut (take n last)) i [] ≡ take k l
     item_by_itself i h b l k single = rw row_definition (row_item w q p vs i h ∙ sym (text_definition every w (get_or vs i 0) b l k single))
 
@@ -69,7 +69,7 @@ module _ (w : Width) (vs before last : List ℕ) (n : ℕ) (m : MeetsRow w vs be
 
 -- Two calls on rows of finite patterns that leave the same bytes up to their lengths were given the same row.
 pub same-bytes-same-row : (w : Width) {q : ℕ} → Printable w q → (us vs before earlier last later : List ℕ) (n k : ℕ) →
-    MeetsRow w us before (Printed n) last → MeetsRow w vs earlier (Printed k) later → FinitePatterns w us → FinitePatterns w vs →
+    MeetsRow w us before (Ok n) last → MeetsRow w vs earlier (Ok k) later → FinitePatterns w us → FinitePatterns w vs →
     take n last ≡ take k later → us ≡ vs
 same-bytes-same-row w {q} p us vs before earlier last later n k a b fu fv same =
     same_row w q p us vs fu fv (sym (row_definition w us before last n a) ∙ same ∙ row_definition w vs earlier later k b)

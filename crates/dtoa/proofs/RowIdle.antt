@@ -19,7 +19,8 @@ use Rattle.rules.specs.Text.{shown, signed, text}
 use Rattle.rules.specs.Answer.{Answer, answering, leaving}
 use Rattle.rules.specs.Row.{spaced, row, row_number, row_answer, row_after}
 use Rattle.dtoa.specs.MeetsRow.{MeetsRow}
-use Rattle.dtoa.specs.declared.RowOutcome.TheVariants.{Printed, TooMany, TooShort}
+use Rattle.std.specs.Prelude.{Ok, Err}
+use Rattle.dtoa.specs.declared.RowRefusal.TheVariants.{TooMany, TooShort}
 
 -- Two numbers of different lengths: 1.0 and -0.5. A buffer of 52 bytes 42 has just the room for them.
 abbrev pub pair : List ℕ
@@ -43,35 +44,35 @@ has_to_leave = rw pair_row
 
 module _ {last : List ℕ} where
   -- One that refuses everything.
-  pub not_all_too_many : MeetsRow w32 pair lent TooMany last → ⊥
+  pub not_all_too_many : MeetsRow w32 pair lent (Err TooMany) last → ⊥
   not_all_too_many m = omega (arith, ap (λ (a : Answer). a.number) (m.answers ∙ has_to_answer))
 
-  pub not_all_too_short : MeetsRow w32 pair lent TooShort last → ⊥
+  pub not_all_too_short : MeetsRow w32 pair lent (Err TooShort) last → ⊥
   not_all_too_short m = omega (arith, ap (λ (a : Answer). a.number) (m.answers ∙ has_to_answer))
 
   -- One that puts a space behind the last text and counts it, one that drops the last text, or any other with a false length.
-  pub not_another_length : (n : ℕ) → (n ≡ 8 → ⊥) → MeetsRow w32 pair lent (Printed n) last → ⊥
+  pub not_another_length : (n : ℕ) → (n ≡ 8 → ⊥) → MeetsRow w32 pair lent (Ok n) last → ⊥
   not_another_length n other m = other (ap (λ (a : Answer). a.len) (m.answers ∙ has_to_answer))
 
   -- One that takes 4,097 patterns; one that refuses 4,096; one that looks at the room first.
-  pub not_one_more : (n : ℕ) → MeetsRow w32 (replicate 4097 0) (replicate 106522 42) (Printed n) last → ⊥
+  pub not_one_more : (n : ℕ) → MeetsRow w32 (replicate 4097 0) (replicate 106522 42) (Ok n) last → ⊥
   unfolding answering row_answer row_number
   not_one_more n m = omega (arith, ap (λ (a : Answer). a.number) m.answers)
 
-  pub not_one_less : MeetsRow w32 (replicate 4096 0) (replicate 106496 42) TooMany last → ⊥
+  pub not_one_less : MeetsRow w32 (replicate 4096 0) (replicate 106496 42) (Err TooMany) last → ⊥
   unfolding answering row_answer row_number
   not_one_less m = omega (arith, ap (λ (a : Answer). a.number) m.answers)
 
-  pub not_room_first : MeetsRow w32 (replicate 4097 0) [] TooShort last → ⊥
+  pub not_room_first : MeetsRow w32 (replicate 4097 0) [] (Err TooShort) last → ⊥
   unfolding answering row_answer row_number
   not_room_first m = omega (arith, ap (λ (a : Answer). a.number) m.answers)
 
 -- One that puts the texts in another order.
-pub not_exchanged : MeetsRow w32 pair lent (Printed 8) (bytes "-0.5 1.0" ++ drop 8 lent) → ⊥
+pub not_exchanged : MeetsRow w32 pair lent (Ok 8) (bytes "-0.5 1.0" ++ drop 8 lent) → ⊥
 unfolding bytes
 not_exchanged m = omega (arith, ap (λ (l : List ℕ). get_or l 0 0) (m.bytes ∙ has_to_leave))
 
 -- One that puts a space behind the last text and does not count it.
-pub not_a_byte_behind : MeetsRow w32 pair lent (Printed 8) (bytes "1.0 -0.5 " ++ drop 9 lent) → ⊥
+pub not_a_byte_behind : MeetsRow w32 pair lent (Ok 8) (bytes "1.0 -0.5 " ++ drop 9 lent) → ⊥
 unfolding bytes
 not_a_byte_behind m = omega (arith, ap (λ (l : List ℕ). get_or l 8 0) (m.bytes ∙ has_to_leave))
