@@ -1,13 +1,15 @@
 // The C interface: each call of the printer as a function of C's, with its answer as two numbers.
 #![tactic(auto)]
 
-ghost use Rattle.std.specs.Prelude.{◌≡◌, ◌≤◌};
+ghost use Rattle.std.specs.Prelude.{◌≡◌, ℕ, ◌*◌, ◌≤◌, refl, Result, Ok, Err};
 ghost use Rattle.rules.specs.Width.{w32, w64};
-ghost use Rattle.rules.specs.Answer.{every, finite_only};
+ghost use Rattle.rules.specs.Answer.{every, finite_only, Answer};
+ghost use Rattle.rules.specs.Row.{row_limit, row_room};
+ghost use Rattle.dtoa.specs.declared.Refusal.TheVariants.{TooShort, NotFinite};
 ghost use Rattle.dtoa.specs.Meets.{told};
 ghost use Rattle.dtoa_c.specs.Exported.{Exported};
 
-use dtoa::Outcome;
+use dtoa::Refusal;
 
 pub mod reads;
 pub mod rows;
@@ -20,23 +22,45 @@ pub struct DtoaPrinted {
     pub length: u32,
 }
 
-// An outcome as its number and its length.
-fn answered(o: Outcome) -> DtoaPrinted
-    requires { (told o).len ≤ 25 }
-    ensures number { result.number ≡ (told o).number }
-    ensures length { result.length ≡ (told o).len }
+// A refusal that C gets as a number.
+trait Numbered {
+    ghost told: { Result ℕ Self → Answer };
+
+    fn number(self) -> u32
+        ensures { result ≡ (told (Err self)).number };
+
+    // What is printed has number 0, and a refusal length 0.
+    ghost printed: { (n : ℕ) → told (Ok n) ≡ record { number = 0; len = n } };
+    ghost refused: { (e : Self) → (told (Err e)).len ≡ 0 };
+}
+
+impl Numbered for Refusal {
+    ghost told = { told };
+
+    ghost printed = { λ n. refl };
+    ghost refused = { elim [ TooShort ↦ refl | NotFinite ↦ refl ] };
+
+    fn number(self) -> u32 {
+        match self {
+            Refusal::TooShort => 1,
+            Refusal::NotFinite => 2,
+        }
+    }
+}
+
+// A result as its number and its length. A `From` could not ask that the length fits.
+fn answered<E: Numbered>(o: Result<usize, E>) -> DtoaPrinted
+    requires { (E.told o).len ≤ row_room * row_limit }
+    ensures number { result.number ≡ (E.told o).number }
+    ensures length { result.length ≡ (E.told o).len }
 {
     match o {
-        Outcome::Printed(n) => DtoaPrinted {
+        Ok(n) => DtoaPrinted {
             number: 0,
             length: n as u32,
         },
-        Outcome::TooShort => DtoaPrinted {
-            number: 1,
-            length: 0,
-        },
-        Outcome::NotFinite => DtoaPrinted {
-            number: 2,
+        Err(refusal) => DtoaPrinted {
+            number: refusal.number(),
             length: 0,
         },
     }

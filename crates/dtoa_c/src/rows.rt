@@ -1,32 +1,24 @@
 // The call for a row as a function of C's.
-ghost use Rattle.std.specs.Prelude.{◌≡◌, ◌*◌, ◌≤◌};
+ghost use Rattle.std.specs.Prelude.{refl};
 ghost use Rattle.rules.specs.Width.{w32};
-ghost use Rattle.rules.specs.Row.{row_limit, row_room};
 ghost use Rattle.dtoa.specs.MeetsRow.{row_told};
+ghost use Rattle.dtoa.specs.declared.RowRefusal.TheVariants.{TooMany, TooShort};
 ghost use Rattle.dtoa_c.specs.Exported.{ExportedRow};
 
-use crate::DtoaPrinted;
-use dtoa::RowOutcome;
+use crate::{DtoaPrinted, Numbered, answered};
+use dtoa::RowRefusal;
 
-// An outcome as its number and its length.
-fn answered_row(o: RowOutcome) -> DtoaPrinted
-    requires { (row_told o).len ≤ row_room * row_limit }
-    ensures number { result.number ≡ (row_told o).number }
-    ensures length { result.length ≡ (row_told o).len }
-{
-    match o {
-        RowOutcome::Printed(n) => DtoaPrinted {
-            number: 0,
-            length: n as u32,
-        },
-        RowOutcome::TooMany => DtoaPrinted {
-            number: 3,
-            length: 0,
-        },
-        RowOutcome::TooShort => DtoaPrinted {
-            number: 4,
-            length: 0,
-        },
+impl Numbered for RowRefusal {
+    ghost told = { row_told };
+
+    ghost printed = { λ n. refl };
+    ghost refused = { elim [ TooMany ↦ refl | TooShort ↦ refl ] };
+
+    fn number(self) -> u32 {
+        match self {
+            RowRefusal::TooMany => 3,
+            RowRefusal::TooShort => 4,
+        }
     }
 }
 
@@ -35,5 +27,5 @@ fn answered_row(o: RowOutcome) -> DtoaPrinted
 pub extern "C" fn dtoa_format_row32(patterns: &[u32], out: &mut [u8]) -> DtoaPrinted
     ensures { ExportedRow w32 patterns.now out.old result.number result.length out.new }
 {
-    answered_row(dtoa::format_row32(patterns, out))
+    answered(dtoa::format_row32(patterns, out))
 }
