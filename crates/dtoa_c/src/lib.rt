@@ -31,6 +31,7 @@ trait Numbered {
 
     // What is printed has number 0, and a refusal length 0.
     ghost printed: { (n : ℕ) → told (Ok n) ≡ record { number = 0; len = n } };
+
     ghost refused: { (e : Self) → (told (Err e)).len ≡ 0 };
 }
 
@@ -38,6 +39,7 @@ impl Numbered for Refusal {
     ghost told = { told };
 
     ghost printed = { λ n. refl };
+
     ghost refused = { elim [ TooShort ↦ refl | NotFinite ↦ refl ] };
 
     fn number(self) -> u32 {

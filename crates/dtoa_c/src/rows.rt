@@ -12,6 +12,7 @@ impl Numbered for RowRefusal {
     ghost told = { row_told };
 
     ghost printed = { λ n. refl };
+
     ghost refused = { elim [ TooMany ↦ refl | TooShort ↦ refl ] };
 
     fn number(self) -> u32 {

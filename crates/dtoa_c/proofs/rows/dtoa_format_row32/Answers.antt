@@ -4,5 +4,5 @@ use Rattle.theorems.proofs.Printable.{printable32}
 use Rattle.dtoa_c.proofs.Answering.{row_length_held}
 use Rattle.dtoa_c.proofs.rows.dtoa_format_row32.Goals as goal
 
-pub answered_row-requires : goal.answered_row-requires
-answered_row-requires c = row_length_held w32 _ _ _ printable32 _ c.format_row32.ensures
+pub answered-requires : goal.answered-requires
+answered-requires c = row_length_held w32 _ _ _ printable32 _ c.format_row32.ensures
