@@ -18,7 +18,6 @@ use Rattle.theorems.proofs.TextLength.{text-length}
 use Rattle.theorems.proofs.RoundTrip.{restored, distinct}
 use Rattle.dtoa.specs.Meets.{Meets}
 use Rattle.std.specs.Prelude.{Ok}
-
 use Rattle.dtoa.proofs.Outcomes.{right}
 
 -- A call that printed n bytes.

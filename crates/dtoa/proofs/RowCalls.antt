@@ -19,7 +19,6 @@ use Rattle.theorems.proofs.Rows.{FinitePatterns, few_patterns, row-length, row_i
 use Rattle.dtoa.specs.Meets.{Meets}
 use Rattle.dtoa.specs.MeetsRow.{MeetsRow}
 use Rattle.std.specs.Prelude.{Ok}
-
 use Rattle.dtoa.proofs.Calls.{text_definition}
 use Rattle.dtoa.proofs.RowOutcomes.{right}
 

@@ -73,7 +73,7 @@ fn answered<E: Numbered>(o: Result<usize, E>) -> DtoaPrinted
 pub extern "C" fn dtoa_format32(bits: u32, buf: &mut [u8]) -> DtoaPrinted
     ensures { Exported every w32 bits buf.old result.number result.length buf.new }
 {
-    answered(dtoa::format32(bits, buf))
+    answered(dtoa::format(bits, buf))
 }
 
 // Prints any pattern of 64 bits.
@@ -81,7 +81,7 @@ pub extern "C" fn dtoa_format32(bits: u32, buf: &mut [u8]) -> DtoaPrinted
 pub extern "C" fn dtoa_format64(bits: u64, buf: &mut [u8]) -> DtoaPrinted
     ensures { Exported every w64 bits buf.old result.number result.length buf.new }
 {
-    answered(dtoa::format64(bits, buf))
+    answered(dtoa::format(bits, buf))
 }
 
 // Prints a finite pattern of 32 bits, and refuses NaN and infinity.
@@ -89,7 +89,7 @@ pub extern "C" fn dtoa_format64(bits: u64, buf: &mut [u8]) -> DtoaPrinted
 pub extern "C" fn dtoa_format_finite32(bits: u32, buf: &mut [u8]) -> DtoaPrinted
     ensures { Exported finite_only w32 bits buf.old result.number result.length buf.new }
 {
-    answered(dtoa::format_finite32(bits, buf))
+    answered(dtoa::format_finite(bits, buf))
 }
 
 // Prints a finite pattern of 64 bits, and refuses NaN and infinity.
@@ -97,5 +97,5 @@ pub extern "C" fn dtoa_format_finite32(bits: u32, buf: &mut [u8]) -> DtoaPrinted
 pub extern "C" fn dtoa_format_finite64(bits: u64, buf: &mut [u8]) -> DtoaPrinted
     ensures { Exported finite_only w64 bits buf.old result.number result.length buf.new }
 {
-    answered(dtoa::format_finite64(bits, buf))
+    answered(dtoa::format_finite(bits, buf))
 }

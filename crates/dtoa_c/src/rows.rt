@@ -28,5 +28,5 @@ impl Numbered for RowRefusal {
 pub extern "C" fn dtoa_format_row32(patterns: &[u32], out: &mut [u8]) -> DtoaPrinted
     ensures { ExportedRow w32 patterns.now out.old result.number result.length out.new }
 {
-    answered(dtoa::format_row32(patterns, out))
+    answered(dtoa::format_row(patterns, out))
 }

@@ -6,23 +6,21 @@ ghost use Rattle.rules.specs.Pattern.{magnitude};
 ghost use Rattle.theorems.proofs.Boundaries.{Finite};
 ghost use Rattle.grisu.specs.Grisu.{ScaledTo, Decided};
 
+use digits::Scaled;
 use diyfp::DiyFp;
 use powers::Powers;
 
-// The scaled numbers of a magnitude: H, W, D and x, and the decimal exponent that their power starts from.
+// The scaled numbers of a magnitude, and the decimal exponent that their power starts from.
 #[derive(Clone, Copy)]
-struct Scaled {
-    h: u64,
-    w: u64,
-    delta: u64,
-    x: u32,
+struct Start {
+    numbers: Scaled,
     k: i32,
 }
 
 // Scales the boundaries and the value of a finite magnitude by one power of ten.
-fn scale<P: Powers>(pattern: P) -> Scaled
+fn scale<P: Powers>(pattern: P) -> Start
     requires { Finite P.width (magnitude P.width (P.number pattern)) }
-    ensures { ScaledTo P.width (magnitude P.width (P.number pattern)) result.h result.w result.delta result.x result.k }
+    ensures { ScaledTo P.width (magnitude P.width (P.number pattern)) result.numbers.h result.numbers.w result.numbers.delta result.numbers.x result.k }
 {
     let v = DiyFp::from_bits(pattern);
     let b = v.normalized_boundaries::<P>();
@@ -31,11 +29,13 @@ fn scale<P: Powers>(pattern: P) -> Scaled
     let wp = b.plus.times::<P>(c.power);
     let wm = b.minus.times::<P>(c.power);
     let h = wp.f - 1;
-    Scaled {
-        h,
-        w: w.f,
-        delta: h - (wm.f + 1),
-        x: (0 - wp.e) as u32,
+    Start {
+        numbers: Scaled {
+            h,
+            w: w.f,
+            delta: h - (wm.f + 1),
+            x: (0 - wp.e) as u32,
+        },
         k: c.k,
     }
 }
@@ -55,7 +55,7 @@ pub fn grisu2<P: Powers>(pattern: P, buf: &mut [u8]) -> Decimal
     ensures { Decided P.width (magnitude P.width (P.number pattern)) result.len result.k buf.old buf.new }
 {
     let s = scale(pattern);
-    let d = digits::digit_gen64(s.h, s.w, s.delta, s.x, buf);
+    let d = s.numbers.digit_gen(buf);
     Decimal {
         len: d.len,
         k: d.place + s.k,

@@ -1,78 +1,70 @@
 // Prints the text of each pattern that standard input lists, one to a line: 8 hex digits for 32 bits, 16 for 64.
 #![tactic(auto)]
 
-ghost use Rattle.std.specs.Prelude.{◌≡◌, ◌≤◌, length, take};
+ghost use Rattle.std.specs.Prelude.{◌≤◌};
 
-use dtoa::Outcome;
 use hexline::Pattern;
+use powers::Powers;
 use std::io;
 use std::io::Read;
 
-// How many bytes of a line are kept, and how many there are for a text.
+// How many bytes of a line are kept.
 const ROOM: usize = 4096;
+
+// How many bytes there are for a text and a line end.
+const TEXT_ROOM: usize = 26;
 
 // The most bytes that one read takes.
 const CHUNK: usize = 65536;
 
-// Where in the input we are: the number of the line, and how many of its bytes are kept.
-#[derive(Clone, Copy)]
-struct Cursor {
+// A line: its number, and its bytes as far as they are kept. The array is fixed, so that a line of any length takes no memory.
+#[derive(Drop)]
+struct Line {
     number: u64,
+    bytes: [u8; ROOM],
     len: usize,
+    ghost within: { len ≤ 4096 },
 }
 
-// The line with one more byte. A carriage return stands only before a line end, and is no part of a line.
-fn with_byte(at: Cursor, b: u8, line: &mut [u8]) -> Cursor {
-    let len = at.len;
-    if b == b'\r' {
-        return at;
+impl Line {
+    // The first line, of which nothing has come yet.
+    fn first() -> Line {
+        Line {
+            number: 1,
+            bytes: [0u8; ROOM],
+            len: 0,
+        }
     }
-    if len < line.len() {
-        line[len] = b;
-        return Cursor {
-            number: at.number,
-            len: len + 1,
-        };
+
+    // Keeps one more byte. A carriage return stands only before a line end, and is no part of a line.
+    fn push(&mut self, b: u8) {
+        if b != b'\r' && self.len < ROOM {
+            self.bytes[self.len] = b;
+            self.len += 1;
+        }
     }
-    at
-}
 
-// What a line says.
-fn said(line: &[u8], len: usize) -> Pattern {
-    if len <= line.len() {
-        return hexline::parse(&line[..len]);
+    fn text(&self) -> &[u8] {
+        &self.bytes[..self.len]
     }
-    Pattern::Neither
-}
 
-// Puts a line end behind a printed text, and answers how many bytes both have; 0 where nothing was printed.
-fn with_line_end(o: Outcome, text: &mut [u8]) -> usize
-    ensures { (result ≤ length text.new) × (result ≡ length (take result text.new)) }
-{
-    let Outcome::Printed(n) = o else {
-        return 0;
-    };
-    if n < text.len() {
-        text[n] = b'\n';
-        return n + 1;
+    // Begins the next line. No input has so many that the number stops at the last.
+    fn next(&mut self) {
+        self.number = self.number.saturating_add(1);
+        self.len = 0;
     }
-    0
 }
 
-// Writes the text of a pattern of 32 bits.
-fn print32(rt: &impl Print, bits: u32) -> io::Result<()> {
-    let mut text = [0u8; ROOM];
-    let o = dtoa::format32(bits, &mut text);
-    let n = with_line_end(o, &mut text);
-    rt.write_all(&text[..n])
-}
-
-// Writes the text of a pattern of 64 bits.
-fn print64(rt: &impl Print, bits: u64) -> io::Result<()> {
-    let mut text = [0u8; ROOM];
-    let o = dtoa::format64(bits, &mut text);
-    let n = with_line_end(o, &mut text);
-    rt.write_all(&text[..n])
+// Writes the text of a pattern.
+fn show<P: Powers>(rt: &impl Print, pattern: P) -> io::Result<()> {
+    let mut text = [0u8; TEXT_ROOM];
+    match dtoa::format(pattern, &mut text) {
+        Ok(n) => {
+            text[n] = b'\n';
+            rt.write_all(&text[..n + 1])
+        }
+        Err(_) => Ok(()),
+    }
 }
 
 // Says on standard error that a line is no pattern. The run goes on where that cannot be written.
@@ -81,83 +73,49 @@ fn complain(rt: &impl Eprint, number: u64) {
 }
 
 // Prints what a whole line asks for.
-fn finish(rt: &(impl Print + Eprint), at: Cursor, line: &[u8]) -> io::Result<()> {
-    match said(line, at.len) {
-        Pattern::Single(bits) => print32(rt, bits),
-        Pattern::Double(bits) => print64(rt, bits),
-        Pattern::Neither => {
-            complain(rt, at.number);
+fn finish(rt: &(impl Print + Eprint), line: &Line) -> io::Result<()> {
+    match hexline::parse(line.text()) {
+        Some(Pattern::Single(bits)) => show(rt, bits),
+        Some(Pattern::Double(bits)) => show(rt, bits),
+        None => {
+            complain(rt, line.number);
             Ok(())
         }
     }
 }
 
-// The number of the next line. No input has so many lines that it stops at the last.
-fn next_number(number: u64) -> u64 {
-    if number < u64::MAX {
-        return number + 1;
-    }
-    number
-}
-
-// Takes one byte of the input, and answers where that leads.
-fn take(rt: &(impl Print + Eprint), at: Cursor, b: u8, line: &mut [u8]) -> io::Result<Cursor> {
-    if b != b'\n' {
-        return Ok(with_byte(at, b, line));
-    }
-    finish(rt, at, line)?;
-    Ok(Cursor {
-        number: next_number(at.number),
-        len: 0,
-    })
-}
-
 // Takes the bytes that one read brought, up to the first write that fails.
-fn take_all(
-    rt: &(impl Print + Eprint),
-    at: Cursor,
-    bytes: &[u8],
-    line: &mut [u8],
-) -> io::Result<Cursor> {
-    let mut now = at;
+fn take(rt: &(impl Print + Eprint), line: &mut Line, bytes: &[u8]) -> io::Result<()> {
     for b in bytes {
-        now = take(rt, now, *b, line)?;
-    }
-    Ok(now)
-}
-
-// Reads once and takes what came; `None` says that the input has ended. A last line without a line end counts, if it is not empty.
-fn read_some(
-    rt: &(impl Print + Eprint),
-    input: &mut impl Read,
-    at: Cursor,
-    line: &mut [u8],
-) -> io::Result<Option<Cursor>> {
-    let mut buf = [0u8; CHUNK];
-    let n = input.read(&mut buf)?;
-    if n == 0 {
-        if 0 < at.len {
-            finish(rt, at, line)?;
-        }
-        return Ok(None);
-    }
-    Ok(Some(take_all(rt, at, &buf[..n], line)?))
-}
-
-// A proved loop has to end, and nothing says that an input does: the loop counts its turns, up to a number that no run reaches.
-fn read_all(rt: &(impl Input + Print + Eprint), line: &mut [u8]) -> io::Result<()> {
-    let mut input = rt.reader();
-    let mut at = Cursor { number: 1, len: 0 };
-    for _ in 0..u64::MAX {
-        match read_some(rt, &mut input, at, line)? {
-            Some(next) => at = next,
-            None => break,
+        if *b == b'\n' {
+            finish(rt, line)?;
+            line.next();
+        } else {
+            line.push(*b);
         }
     }
     Ok(())
 }
 
+// Prints all lines. A last line without a line end counts, if it is not empty. A proved loop has to end, and nothing says that an input
+// does: the loop counts its turns, up to a number that no run reaches.
+fn print_all(rt: &(impl Input + Print + Eprint)) -> io::Result<()> {
+    let mut input = rt.reader();
+    let mut line = Line::first();
+    let mut buf = [0u8; CHUNK];
+    for _ in 0..u64::MAX {
+        let n = input.read(&mut buf)?;
+        if n == 0 {
+            break;
+        }
+        take(rt, &mut line, &buf[..n])?;
+    }
+    if 0 < line.len {
+        finish(rt, &line)?;
+    }
+    Ok(())
+}
+
 fn main(rt: HostRuntime) -> io::Result<()> {
-    let mut line = [0u8; ROOM];
-    read_all(&rt, &mut line)
+    print_all(&rt)
 }

@@ -12,16 +12,6 @@ use powers::Powers;
 
 pub mod bits;
 
-// Puts three bytes at a place, and answers the place behind them.
-fn three(buf: &mut [u8], at: usize, bytes: &[u8; 3]) -> usize
-    requires { at + 3 ≤ length buf.old }
-    ensures { Puts bytes.now buf.old at buf.new result }
-{
-    let end = at + 3;
-    buf[at..end].copy_from_slice(bytes);
-    end
-}
-
 // Puts a `-` where a number is negative, and answers the place behind it.
 fn put_sign(negative: bool, buf: &mut [u8]) -> usize
     requires { 0 < length buf.old }
@@ -40,9 +30,9 @@ fn put_name<P: Pattern>(pattern: P, buf: &mut [u8]) -> usize
 {
     if bits::is_bare(pattern) {
         let at = put_sign(bits::is_negative(pattern), buf);
-        return three(buf, at, b"inf");
+        return put::bytes(buf, at, b"inf");
     }
-    three(buf, 0, b"NaN")
+    put::bytes(buf, 0, b"NaN")
 }
 
 // Puts the text of a finite magnitude, and answers its length.
@@ -52,7 +42,7 @@ fn magnitude<P: Powers>(pattern: P, buf: &mut [u8]) -> usize
     ensures { Puts (shown P.width (magnitude P.width (P.number pattern))) buf.old 0 buf.new result }
 {
     if bits::is_zero(pattern) {
-        return three(buf, 0, b"0.0");
+        return put::bytes(buf, 0, b"0.0");
     }
     let d = grisu::grisu2(pattern, buf);
     layout::prettify(buf, d.len, d.k)

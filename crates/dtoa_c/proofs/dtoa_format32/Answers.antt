@@ -7,4 +7,4 @@ use Rattle.dtoa_c.proofs.Answering.{length_held}
 use Rattle.dtoa_c.proofs.dtoa_format32.Goals as goal
 
 pub answered-requires : goal.answered-requires
-answered-requires c = omega (arith, length_held every w32 _ _ _ printable32 _ c.format32.ensures)
+answered-requires c = omega (arith, length_held every w32 _ _ _ printable32 _ c.format.ensures)

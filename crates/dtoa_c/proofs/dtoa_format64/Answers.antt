@@ -7,4 +7,4 @@ use Rattle.dtoa_c.proofs.Answering.{length_held}
 use Rattle.dtoa_c.proofs.dtoa_format64.Goals as goal
 
 pub answered-requires : goal.answered-requires
-answered-requires c = omega (arith, length_held every w64 _ _ _ printable64 _ c.format64.ensures)
+answered-requires c = omega (arith, length_held every w64 _ _ _ printable64 _ c.format.ensures)

@@ -7,4 +7,4 @@ use Rattle.dtoa_c.proofs.Answering.{length_held}
 use Rattle.dtoa_c.proofs.dtoa_format_finite64.Goals as goal
 
 pub answered-requires : goal.answered-requires
-answered-requires c = omega (arith, length_held finite_only w64 _ _ _ printable64 _ c.format_finite64.ensures)
+answered-requires c = omega (arith, length_held finite_only w64 _ _ _ printable64 _ c.format_finite.ensures)

@@ -13,7 +13,7 @@ finite g c = is_finite g.met.P.Pattern.printable _ c.requires.finite (found_not 
 
 pub returns-then-is_zero : goal.returns-then-is_zero
 returns-then-is_zero g c =
-    rw (shows_zero g.P.Pattern.width _ (found c.is_zero.ensures c.if-is_zero.true)) c.three.ensures
+    rw (shows_zero g.P.Pattern.width _ (found c.is_zero.ensures c.if-is_zero.true)) c.bytes.ensures
 
 pub grisu2-d-requires-clause-finite : goal.grisu2-d-requires-clause-finite
 grisu2-d-requires-clause-finite g c = finite g (goal.at.grisu2-d-requires-clause-finite g c).Else-is_zero

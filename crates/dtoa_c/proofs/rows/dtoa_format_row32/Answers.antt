@@ -5,4 +5,4 @@ use Rattle.dtoa_c.proofs.Answering.{row_length_held}
 use Rattle.dtoa_c.proofs.rows.dtoa_format_row32.Goals as goal
 
 pub answered-requires : goal.answered-requires
-answered-requires c = row_length_held w32 _ _ _ printable32 _ c.format_row32.ensures
+answered-requires c = row_length_held w32 _ _ _ printable32 _ c.format_row.ensures
