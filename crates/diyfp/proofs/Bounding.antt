@@ -36,11 +36,7 @@ upper_shiftable {w} {m} room h =
     }
 
 module _ {w : Width} {f : ℕ} {e : ℤ} (small : Small w) (p : StandsIn w (Finite w) f e) where
-  -- An i32 holds an exponent d below the magnitude's ..
-  pub falls : (d : ℕ) → d ≤ w.N → SFits w32 (read e -ℤ pos d)
-  falls d few = (lowered small p.stands p.kind.most_exponent d few).fits
-
-  -- .. and gives back the pair at that exponent, whatever its significand.
+  -- An i32 gives back the pair at an exponent d below the magnitude's, whatever its significand.
   pub beside : (d : ℕ) → d ≤ w.N → (m : Pair) → Stands w m f e → {g : ℕ} (x : ℕ) → g ≡ x →
       Stands w (record { f = x; exp = m.exp - d }) g (read (read e -ℤ pos d))
   beside d few m s = lowering.beside small s (kind p m s).most_exponent d few (omega (arith, (kind p m s).least_exponent))
@@ -128,23 +124,11 @@ module _ {w : Width} {q : ℕ} (sound : Sound w q) (small : Small w) (W : ℕ) (
   twice : (m : Pair) → Stands w m f e → f * 2 % W ≡ 2 * m.f
   twice = multiple small p 2 W (lit≤ tt) (omega (arith, word, pow_mono {i = w.S + 3} {j = w.N} (omega (arith, sound.deep))))
 
-  -- The upper boundary before it is shifted: it fits ..
-  pub above_fits : f * 2 % W + 1 < W
-  above_fits =
-      omega (
-        arith,
-        twice p.pair p.stands,
-        p.kind.fits,
-        pow-add 2 w.S 1,
-        pow-add 2 w.S 2,
-        word,
-        pow_mono {i = w.S + 2} {j = w.N} (omega (arith, sound.deep)),
-      )
-
+  -- The upper boundary before it is shifted ..
   above_stands : (m : Pair) → Stands w m f e → Stands w (record { f = 2 * m.f + 1; exp = m.exp - 1 }) (f * 2 % W + 1) (read (read e -ℤ pos 1))
   above_stands m s = beside small p 1 small.some m s (2 * m.f + 1) (ap (λ (x : ℕ). x + 1) (twice m s))
 
-  -- .. and can be shifted.
+  -- .. can be shifted.
   pub above : StandsIn w (Shiftable w w.N) (f * 2 % W + 1) (read (read e -ℤ pos 1))
   above =
       record {

@@ -8,7 +8,7 @@ use lib.IntN.{ℤ, pos, ◌-ℤ◌}
 use lib.Pow.{pow_pos, pow-add, pow_mono}
 use mir.Facts.{to_z_pos}
 use mir.Syntax.{w32}
-use mir.Val.{SFits, to_z}
+use mir.Val.{to_z}
 use Rattle.laws.proofs.Powers.{two_halves}
 use Rattle.laws.proofs.Signed.{read}
 use Rattle.laws.proofs.Zeros.{Fills, fills, few_zeros}
@@ -18,7 +18,7 @@ use Rattle.rules.specs.Boundaries.{shifted}
 use Rattle.theorems.proofs.Boundaries.{Shifted, shifts, no_further}
 use Rattle.diyfp.specs.Pairs.{StandsIn, Becomes, Shiftable}
 use Rattle.patterns.specs.Small.{Small}
-use Rattle.diyfp.proofs.Lowering.{lowered, beside}
+use Rattle.diyfp.proofs.Lowering.{beside}
 use Rattle.diyfp.proofs.Standing.{kind}
 
 -- No two shifts set the highest of n bits and lose none.
@@ -73,13 +73,7 @@ module _ {w : Width} {f : ℕ} {e : ℤ} (small : Small w) (p : StandsIn w (Shif
   same_distance : to_z w32 (count_leading_zeros w.N f) ≡ pos (count_leading_zeros w.N f)
   same_distance = to_z_pos w32 (omega (arith, few, small.sum))
 
-  -- An i32 holds the exponent's fall ..
-  pub falls : SFits w32 (read e -ℤ to_z w32 (count_leading_zeros w.N f))
-  falls =
-      rw same_distance
-      (lowered small p.stands p.kind.most_exponent (count_leading_zeros w.N f) (omega (arith, few))).fits
-
-  -- .. a word of N bits the significand ..
+  -- A word of N bits holds the significand ..
   pub fits : f * 2 ^ count_leading_zeros w.N f < 2 ^ w.N
   fits = (fills w.N f some within).fits
 
