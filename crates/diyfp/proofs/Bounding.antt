@@ -19,6 +19,7 @@ use Rattle.rules.specs.Pattern.{Pair}
 use Rattle.rules.specs.Boundaries.{shifted, upper, below, lower}
 use Rattle.theorems.proofs.Boundaries.{Finite, apart, upper-shifted, value_shifted, below-exponent}
 use Rattle.theorems.proofs.Widths.{Sound}
+use Rattle.diyfp.specs.declared.DiyFp.{DiyFp}
 use Rattle.diyfp.specs.Pairs.{Stands, StandsIn, Becomes, Shiftable, Bounds}
 use Rattle.patterns.specs.Small.{Small}
 use Rattle.diyfp.proofs.Lowering as lowering
@@ -35,29 +36,29 @@ upper_shiftable {w} {m} room h =
       most_exponent = omega (arith, h.most_exponent);
     }
 
-module _ {w : Width} {f : ℕ} {e : ℤ} (small : Small w) (p : StandsIn w (Finite w) f e) where
+module _ {w : Width} {v : DiyFp} (small : Small w) (p : StandsIn w (Finite w) v) where
   -- An i32 gives back the pair at an exponent d below the magnitude's, whatever its significand.
-  pub beside : (d : ℕ) → d ≤ w.N → (m : Pair) → Stands w m f e → {g : ℕ} (x : ℕ) → g ≡ x →
-      Stands w (record { f = x; exp = m.exp - d }) g (read (read e -ℤ pos d))
+  pub beside : (d : ℕ) → d ≤ w.N → (m : Pair) → Stands w m v → {g : ℕ} (x : ℕ) → g ≡ x →
+      Stands w (record { f = x; exp = m.exp - d }) (record { f = g; e = read (read v.e -ℤ pos d) })
   beside d few m s = lowering.beside small s (kind p m s).most_exponent d few (omega (arith, (kind p m s).least_exponent))
 
   -- A word of W numbers holds a small multiple of the significand.
-  pub multiple : (d W : ℕ) → d ≤ 4 → 2 ^ (w.S + 3) ≤ W → (m : Pair) → Stands w m f e → f * d % W ≡ d * m.f
+  pub multiple : (d W : ℕ) → d ≤ 4 → 2 ^ (w.S + 3) ≤ W → (m : Pair) → Stands w m v → v.f * d % W ≡ d * m.f
   multiple d W few word m s =
       let h = kind p m s in
-      let small : f * d < W =
-      omega (arith, word, h.fits, s.significand, pow-add 2 w.S 1, pow-add 2 w.S 3, mul-le-mul_left f few) in
+      let small : v.f * d < W =
+      omega (arith, word, h.fits, s.significand, pow-add 2 w.S 1, pow-add 2 w.S 3, mul-le-mul_left v.f few) in
       mod-eq_of_lt small ∙ rw s.significand (mul_comm m.f d)
 
   -- The lower boundary where f is the hidden bit ..
-  pub hidden : (m : Pair) → Stands w m f e → 2 ≤ w.N → {g : ℕ} → m.f ≡ 2 ^ w.S → g ≡ 4 * m.f - 1 →
-      Stands w (below w m) g (read (read e -ℤ pos 2))
+  pub hidden : (m : Pair) → Stands w m v → 2 ≤ w.N → {g : ℕ} → m.f ≡ 2 ^ w.S → g ≡ 4 * m.f - 1 →
+      Stands w (below w m) (record { f = g; e = read (read v.e -ℤ pos 2) })
   unfolding below
   hidden m s room at is = rw (eq-eqb m.f (2 ^ w.S) at, below) (beside 2 room m s (4 * m.f - 1) is)
 
   -- .. and where it is not.
-  pub other : (m : Pair) → Stands w m f e → 1 ≤ w.N → {g : ℕ} → (m.f ≡ 2 ^ w.S → ⊥) → g ≡ 2 * m.f - 1 →
-      Stands w (below w m) g (read (read e -ℤ pos 1))
+  pub other : (m : Pair) → Stands w m v → 1 ≤ w.N → {g : ℕ} → (m.f ≡ 2 ^ w.S → ⊥) → g ≡ 2 * m.f - 1 →
+      Stands w (below w m) (record { f = g; e = read (read v.e -ℤ pos 1) })
   unfolding below
   other m s room differs is = rw (ne_eqb m.f (2 ^ w.S) differs, below) (beside 1 room m s (2 * m.f - 1) is)
 
@@ -100,10 +101,9 @@ module _ (w : Width) (q : ℕ) (sound : Sound w q) (small : Small w) (m : Pair) 
   held_upper : {d : ℤ} → d ≡ sub_ℕ (upper w m).exp (off w) → Held d (upper w m).exp (off w)
   held_upper is = held (record { is = is }) (omega (arith, low, up, h.most_exponent, small.sum))
 
-  brought : (W : ℕ) → 2 ^ w.N ≤ W → {b u : ℕ} {d e : ℤ} → Stands w (below w m) b d → Stands w (upper w m) u e →
-      Brought w m W b (read d -ℤ read e)
+  brought : (W : ℕ) → 2 ^ w.N ≤ W → {b u : DiyFp} → Stands w (below w m) b → Stands w (upper w m) u → Brought w m W b.f (read b.e -ℤ read u.e)
   unfolding lower gap
-  brought W word {b} {u} {d} {e} l k =
+  brought W word {b} {u} l k =
       record {
         fits = x.fits;
         natural = rw is tt;
@@ -111,25 +111,28 @@ module _ (w : Width) (q : ℕ) (sound : Sound w q) (small : Small w) (m : Pair) 
         lower = rw (is, l.significand) (mod-eq_of_lt (omega (arith, word, (apart w q sound m h).below-value, (value_shifted w q sound m h).fits)));
       }
     where
-      x : Held (read d -ℤ read e) ((below w m).exp + off w) (off w + (upper w m).exp)
+      x : Held (read b.e -ℤ read u.e) ((below w m).exp + off w) (off w + (upper w m).exp)
       x =
           signed.apart (held_low l.exponent).back (held_upper k.exponent).back (omega (arith, low, up, h.most_exponent, small.sum))
 
-      is : read (read d -ℤ read e) ≡ pos gap
+      is : read (read b.e -ℤ read u.e) ≡ pos gap
       is = at_least x.back (omega (arith, up)) ∙ ap pos (omega arith)
 
--- Both boundaries of what (f, e) stands for, in a word of W numbers.
-module _ {w : Width} {q : ℕ} (sound : Sound w q) (small : Small w) (W : ℕ) (word : 2 ^ w.N ≤ W) {f : ℕ} {e : ℤ}
-    (p : StandsIn w (Finite w) f e) where
-  twice : (m : Pair) → Stands w m f e → f * 2 % W ≡ 2 * m.f
+-- Both boundaries of what v stands for, in a word of W numbers.
+module _ {w : Width} {q : ℕ} (sound : Sound w q) (small : Small w) (W : ℕ) (word : 2 ^ w.N ≤ W) {v : DiyFp}
+    (p : StandsIn w (Finite w) v) where
+  twice : (m : Pair) → Stands w m v → v.f * 2 % W ≡ 2 * m.f
   twice = multiple small p 2 W (lit≤ tt) (omega (arith, word, pow_mono {i = w.S + 3} {j = w.N} (omega (arith, sound.deep))))
 
   -- The upper boundary before it is shifted ..
-  above_stands : (m : Pair) → Stands w m f e → Stands w (record { f = 2 * m.f + 1; exp = m.exp - 1 }) (f * 2 % W + 1) (read (read e -ℤ pos 1))
+  abbrev pub raised : DiyFp
+  raised = record { f = v.f * 2 % W + 1; e = read (read v.e -ℤ pos 1) }
+
+  above_stands : (m : Pair) → Stands w m v → Stands w (record { f = 2 * m.f + 1; exp = m.exp - 1 }) raised
   above_stands m s = beside small p 1 small.some m s (2 * m.f + 1) (ap (λ (x : ℕ). x + 1) (twice m s))
 
   -- .. can be shifted.
-  pub above : StandsIn w (Shiftable w w.N) (f * 2 % W + 1) (read (read e -ℤ pos 1))
+  pub above : StandsIn w (Shiftable w w.N) raised
   above =
       record {
         pair = record { f = 2 * p.pair.f + 1; exp = p.pair.exp - 1 };
@@ -137,20 +140,19 @@ module _ {w : Width} {q : ℕ} (sound : Sound w q) (small : Small w) (W : ℕ) (
         kind = upper_shiftable (omega (arith, sound.deep)) p.kind;
       }
 
-  -- With the upper boundary shifted, (u, y), and the lower one where it lies, (b, d), the lower one is brought to the upper's exponent.
-  module _ {b u : ℕ} {d y : ℤ} (low : Becomes w (below w) f e b d)
-      (high : Becomes w (shifted w.N w.N) (f * 2 % W + 1) (read (read e -ℤ pos 1)) u y) where
+  -- With the upper boundary shifted, u, and the lower one where it lies, b, the lower one is brought to the upper's exponent.
+  module _ {b u : DiyFp} (low : Becomes w (below w) v b) (high : Becomes w (shifted w.N w.N) raised u) where
     -- The shifted one is the upper boundary.
-    plus : Becomes w (upper w) f e u y
+    plus : Becomes w (upper w) v u
     unfolding upper
     plus m s = high (record { f = 2 * m.f + 1; exp = m.exp - 1 }) (above_stands m s)
 
     -- An i32 holds the shift that this takes ..
-    pub brings : (m : Pair) → Stands w m f e → Brought w m W b (read d -ℤ read y)
+    pub brings : (m : Pair) → Stands w m v → Brought w m W b.f (read b.e -ℤ read u.e)
     brings m s = brought w q sound small m (kind p m s) W word (low m s) (plus m s)
 
     -- .. and both are the boundaries.
-    pub bounds : Bounds w f e (b * 2 ^ nat_abs (read (read d -ℤ read y)) % W) (read y) u y
+    pub bounds : Bounds w v (record { minus = record { f = b.f * 2 ^ nat_abs (read (read b.e -ℤ read u.e)) % W; e = read u.e }; plus = u })
     unfolding lower
     bounds =
         record {

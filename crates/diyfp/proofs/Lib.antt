@@ -4,3 +4,4 @@ pub mod Splitting
 pub mod Shifting
 pub mod Bounding
 pub mod Multiplying
+pub mod Caching

@@ -4,7 +4,7 @@ use Prim.Native.Nat.{ℕ, ◌+◌, ◌-◌, ◌*◌, ◌^◌, ◌≤◌, ◌<◌
 use native.Mathlib.Nat.{mul_assoc, mul-le-mul_right, mul-lt-mul_of_pos_right, le_antisymm}
 use native.Mathlib.Omega.{arith}
 use lib.Count.{count_leading_zeros}
-use lib.IntN.{ℤ, pos, ◌-ℤ◌}
+use lib.IntN.{pos, ◌-ℤ◌}
 use lib.Pow.{pow_pos, pow-add, pow_mono}
 use mir.Facts.{to_z_pos}
 use mir.Syntax.{w32}
@@ -16,6 +16,7 @@ use Rattle.rules.specs.Width.{Width}
 use Rattle.rules.specs.Pattern.{Pair}
 use Rattle.rules.specs.Boundaries.{shifted}
 use Rattle.theorems.proofs.Boundaries.{Shifted, shifts, no_further}
+use Rattle.diyfp.specs.declared.DiyFp.{DiyFp}
 use Rattle.diyfp.specs.Pairs.{StandsIn, Becomes, Shiftable}
 use Rattle.patterns.specs.Small.{Small}
 use Rattle.diyfp.proofs.Lowering.{beside}
@@ -59,46 +60,46 @@ module _ (w : Width) (m : Pair) (some : 0 < w.N) (h : Shiftable w w.N m) where
   no_other z is = distance z (ap (λ (r : Pair). r.f) is)
 
 -- The shift as the code does it.
-module _ {w : Width} {f : ℕ} {e : ℤ} (small : Small w) (p : StandsIn w (Shiftable w w.N) f e) where
-  some : 0 < f
+module _ {w : Width} {v : DiyFp} (small : Small w) (p : StandsIn w (Shiftable w w.N) v) where
+  some : 0 < v.f
   some = omega (arith, p.stands.significand, p.kind.some)
 
-  within : f < 2 ^ w.N
+  within : v.f < 2 ^ w.N
   within = omega (arith, p.stands.significand, p.kind.fits)
 
-  few : count_leading_zeros w.N f < w.N
-  few = few_zeros w.N f some within
+  few : count_leading_zeros w.N v.f < w.N
+  few = few_zeros w.N v.f some within
 
   -- The distance, cast to an i32.
-  same_distance : to_z w32 (count_leading_zeros w.N f) ≡ pos (count_leading_zeros w.N f)
+  same_distance : to_z w32 (count_leading_zeros w.N v.f) ≡ pos (count_leading_zeros w.N v.f)
   same_distance = to_z_pos w32 (omega (arith, few, small.sum))
 
   -- A word of N bits holds the significand ..
-  pub fits : f * 2 ^ count_leading_zeros w.N f < 2 ^ w.N
-  fits = (fills w.N f some within).fits
+  pub fits : v.f * 2 ^ count_leading_zeros w.N v.f < 2 ^ w.N
+  fits = (fills w.N v.f some within).fits
 
   -- .. and the pair is the rules'.
-  pub becomes : {g : ℕ} → g ≡ f * 2 ^ count_leading_zeros w.N f →
-      Becomes w (shifted w.N w.N) f e g (read (read e -ℤ to_z w32 (count_leading_zeros w.N f)))
+  pub becomes : {g : ℕ} → g ≡ v.f * 2 ^ count_leading_zeros w.N v.f →
+      Becomes w (shifted w.N w.N) v (record { f = g; e = read (read v.e -ℤ to_z w32 (count_leading_zeros w.N v.f)) })
   unfolding shifted_by
   becomes is m s =
       let h = kind p m s in
       rw (at_once w m small.some h, ← s.significand, same_distance)
-      (beside small s h.most_exponent (count_leading_zeros w.N f) (omega (arith, few))
+      (beside small s h.most_exponent (count_leading_zeros w.N v.f) (omega (arith, few))
       (omega (arith, few, h.least_exponent)) _ is)
 
   -- In a word of 64 bits there are as many zeros more as the word has bits more.
-  pub zeros : w.N ≤ 64 → count_leading_zeros 64 f ≡ count_leading_zeros w.N f + (64 - w.N)
+  pub zeros : w.N ≤ 64 → count_leading_zeros 64 v.f ≡ count_leading_zeros w.N v.f + (64 - w.N)
   zeros word =
-      let z = count_leading_zeros w.N f in
+      let z = count_leading_zeros w.N v.f in
       let one_less : 63 ≡ w.N - 1 + (64 - w.N) = omega (arith, small.some) in
       let all : 64 ≡ w.N + (64 - w.N) = omega arith in
       let top : 2 ^ 63 ≡ 2 ^ (w.N - 1) * 2 ^ (64 - w.N) = ap (λ (x : ℕ). 2 ^ x) one_less ∙ pow-add 2 (w.N - 1) (64 - w.N) in
       let end : 2 ^ 64 ≡ 2 ^ w.N * 2 ^ (64 - w.N) = ap (λ (x : ℕ). 2 ^ x) all ∙ pow-add 2 w.N (64 - w.N) in
-      let both : f * 2 ^ (z + (64 - w.N)) ≡ f * 2 ^ z * 2 ^ (64 - w.N) = rw pow-add (sym (mul_assoc f (2 ^ z) (2 ^ (64 - w.N)))) in
-      let less : f < 2 ^ 64 = omega (arith, within, pow_mono {i = w.N} {j = 64} word) in
-      one_distance 64 f (count_leading_zeros 64 f) (z + (64 - w.N)) (two_halves 64 (omega arith)) (fills 64 f some less)
+      let both : v.f * 2 ^ (z + (64 - w.N)) ≡ v.f * 2 ^ z * 2 ^ (64 - w.N) = rw pow-add (sym (mul_assoc v.f (2 ^ z) (2 ^ (64 - w.N)))) in
+      let less : v.f < 2 ^ 64 = omega (arith, within, pow_mono {i = w.N} {j = 64} word) in
+      one_distance 64 v.f (count_leading_zeros 64 v.f) (z + (64 - w.N)) (two_halves 64 (omega arith)) (fills 64 v.f some less)
       record {
-        top = rw (both, top) (mul-le-mul_right (2 ^ (64 - w.N)) (fills w.N f some within).top);
-        fits = rw (both, end) (mul-lt-mul_of_pos_right (fills w.N f some within).fits (pow_pos (64 - w.N)));
+        top = rw (both, top) (mul-le-mul_right (2 ^ (64 - w.N)) (fills w.N v.f some within).top);
+        fits = rw (both, end) (mul-lt-mul_of_pos_right (fills w.N v.f some within).fits (pow_pos (64 - w.N)));
       }

@@ -31,10 +31,10 @@ above_least n b low high =
 
 module _ (w : Width) (v b s : ℕ) (upper : b ≡ biased w v) (low : s ≡ significand w v) where
   -- With b not 0 the hidden bit is placed.
-  pub normal : {h : ℕ} {e : ℤ} → h ≡ 2 ^ w.S → (b ≡ 0 → ⊥) → Is e b (w.bias + w.S) → Stands w (magnitude w v) (s + h) e
+  pub normal : {h : ℕ} {e : ℤ} → h ≡ 2 ^ w.S → (b ≡ 0 → ⊥) → Is e b (w.bias + w.S) → Stands w (magnitude w v) (record { f = s + h; e = e })
   unfolding magnitude off
   normal {h} {e} hidden some p =
-      either (λ (m : Pair). Stands w m (s + h) e) (eqb (biased w v) 0) (λ t. absurd (some (upper ∙ eqb→eq (biased w v) 0 t)))
+      either (λ (m : Pair). Stands w m (record { f = s + h; e = e })) (eqb (biased w v) 0) (λ t. absurd (some (upper ∙ eqb→eq (biased w v) 0 t)))
       (λ t.
       record {
         significand = ap₂ (λ (x y : ℕ). x + y) low hidden;
@@ -42,9 +42,9 @@ module _ (w : Width) (v b s : ℕ) (upper : b ≡ biased w v) (low : s ≡ signi
       })
 
   -- With b = 0 it is not, and the exponent is that of b = 1.
-  pub subnormal : {e : ℤ} → b ≡ 0 → Is e 1 (w.bias + w.S) → Stands w (magnitude w v) s e
+  pub subnormal : {e : ℤ} → b ≡ 0 → Is e 1 (w.bias + w.S) → Stands w (magnitude w v) (record { f = s; e = e })
   unfolding magnitude off
   subnormal {e} none p =
-      either (λ (m : Pair). Stands w m s e) (eqb (biased w v) 0)
+      either (λ (m : Pair). Stands w m (record { f = s; e = e })) (eqb (biased w v) 0)
       (λ t. record { significand = low; exponent = p.is ∙ same 1 (w.bias + w.S) (1 + w.N) (off w) (omega arith) })
       (λ t. absurd (eqb_no {a = biased w v} {b = 0} t (omega (arith, upper))))

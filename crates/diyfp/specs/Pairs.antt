@@ -1,21 +1,25 @@
 -- What the code's pairs stand for, in the rules' terms. Assumes nothing.
-use Rattle.std.specs.Prelude.{◌≡◌, ℕ, ◌+◌, ◌^◌, ◌≤◌, ◌<◌, ℤ, pos, ◌+ℤ◌}
+use Rattle.std.specs.Prelude.{◌≡◌, ℕ, ◌+◌, ◌^◌, ◌≤◌, ◌<◌, ℤ, pos, neg_ℤ, ◌+ℤ◌, get_or}
 use Rattle.std.proofs.Math.IntN.{sub_ℕ}
 use Rattle.std.specs.Int.Signed.{mag}
 use Rattle.rules.specs.Width.{Width, off}
 use Rattle.rules.specs.Pattern.{Pair, all_ones}
 use Rattle.rules.specs.Boundaries.{upper, lower}
+use Rattle.rules.specs.Power.{index, P}
 use Rattle.rules.specs.Product.{product}
+use Rattle.diyfp.specs.declared.DiyFp.{DiyFp}
+use Rattle.diyfp.specs.declared.Boundaries.{Boundaries}
+use Rattle.diyfp.specs.declared.CachedPower.{CachedPower}
 
--- The significand f and the exponent e are those of the pair m.
-pub record Stands (w : Width) (m : Pair) (f : ℕ) (e : ℤ) : Type 0 where
-  pub significand : f ≡ m.f
-  pub exponent : e ≡ sub_ℕ m.exp (off w)
+-- The code's pair p is the pair m.
+pub record Stands (w : Width) (m : Pair) (p : DiyFp) : Type 0 where
+  pub significand : p.f ≡ m.f
+  pub exponent : p.e ≡ sub_ℕ m.exp (off w)
 
--- They are those of a pair of the kind P.
-pub record StandsIn (w : Width) (P : Pair → Type 0) (f : ℕ) (e : ℤ) : Type 0 where
+-- It is a pair of the kind P.
+pub record StandsIn (w : Width) (P : Pair → Type 0) (p : DiyFp) : Type 0 where
   pub pair : Pair
-  pub stands : Stands w pair f e
+  pub stands : Stands w pair p
   pub kind : P pair
 
 -- A pair of at most n bits that can be shifted left until bit N - 1 is set: it is not zero, and its exponent can fall as far.
@@ -25,25 +29,31 @@ pub record Shiftable (w : Width) (n : ℕ) (m : Pair) : Type 0 where
   pub least_exponent : w.N ≤ m.exp
   pub most_exponent : m.exp < all_ones w + w.N
 
--- The pair (f, e) becomes (g, d): whatever pair it stood for, that stands for what `to` makes of it.
-abbrev pub Becomes : Width → (Pair → Pair) → ℕ → ℤ → ℕ → ℤ → Type 0
-Becomes w to f e g d = (m : Pair) → Stands w m f e → Stands w (to m) g d
+-- The pair p becomes r: whatever pair it stood for, that stands for what `to` makes of it.
+abbrev pub Becomes : Width → (Pair → Pair) → DiyFp → DiyFp → Type 0
+Becomes w to p r = (m : Pair) → Stands w m p → Stands w (to m) r
 
--- The boundaries of the pair (f, e): the lower one, (g, d), and the upper one, (h, x).
-pub record Bounds (w : Width) (f : ℕ) (e : ℤ) (g : ℕ) (d : ℤ) (h : ℕ) (x : ℤ) : Type 0 where
-  pub minus : Becomes w (lower w) f e g d
-  pub plus : Becomes w (upper w) f e h x
+-- The boundaries of the pair p.
+pub record Bounds (w : Width) (p : DiyFp) (b : Boundaries) : Type 0 where
+  pub minus : Becomes w (lower w) p b.minus
+  pub plus : Becomes w (upper w) p b.plus
 
 -- An exponent whose sums do not wrap. Those of the boundaries and of the table are so.
 abbrev pub Near : ℤ → Type 0
 Near e = mag e < 2 ^ 13
 
--- A significand of N bits and an exponent near zero.
-pub record Factor (w : Width) (f : ℕ) (e : ℤ) : Type 0 where
-  pub fits : f < 2 ^ w.N
-  pub near : Near e
+-- A pair with a significand of N bits and such an exponent.
+pub record Factor (w : Width) (p : DiyFp) : Type 0 where
+  pub fits : p.f < 2 ^ w.N
+  pub near : Near p.e
 
--- The pair (h, x) is the product of (f, e) and (g, d).
-pub record Times (w : Width) (f : ℕ) (e : ℤ) (g : ℕ) (d : ℤ) (h : ℕ) (x : ℤ) : Type 0 where
-  pub significand : h ≡ product w f g
-  pub exponent : x ≡ e +ℤ d +ℤ pos w.N
+-- The pair c.power is the table's entry for the exponent E, and stands for 10^-k.
+pub record Cached (w : Width) (E : ℕ) (c : CachedPower) : Type 0 where
+  pub significand : c.power.f ≡ get_or w.significands (index w E) 0
+  pub exponent : c.power.e ≡ sub_ℕ (get_or w.exponents (index w E) 0) w.twos
+  pub decimal : c.k ≡ neg_ℤ (P w (index w E))
+
+-- The pair r is the product of p and q.
+pub record Times (w : Width) (p q r : DiyFp) : Type 0 where
+  pub significand : r.f ≡ product w p.f q.f
+  pub exponent : r.e ≡ p.e +ℤ q.e +ℤ pos w.N

@@ -7,8 +7,8 @@ ghost use Rattle.rules.specs.Width.{off};
 ghost use Rattle.rules.specs.Pattern.{magnitude};
 ghost use Rattle.rules.specs.Boundaries.{shifted, below};
 ghost use Rattle.theorems.proofs.Boundaries.{Finite};
-ghost use Rattle.diyfp.specs.Pairs.{Stands, StandsIn, Becomes, Shiftable, Bounds, Near, Factor, Times};
-ghost use Rattle.powers.specs.Powers.{Served, Cached};
+ghost use Rattle.diyfp.specs.Pairs.{Stands, StandsIn, Becomes, Shiftable, Bounds, Near, Factor, Cached, Times};
+ghost use Rattle.powers.specs.Powers.{Served};
 
 use patterns::Pattern;
 use powers::Powers;
@@ -44,7 +44,7 @@ fn hidden_bit<P: Pattern>() -> u64
 impl DiyFp {
     // The magnitude of a finite pattern.
     pub fn from_bits<P: Pattern>(pattern: P) -> DiyFp
-        ensures { Stands P.width (magnitude P.width (P.number pattern)) result.f result.e }
+        ensures { Stands P.width (magnitude P.width (P.number pattern)) result }
     {
         let bits = pattern.bits();
         let hidden = hidden_bit::<P>();
@@ -66,8 +66,8 @@ impl DiyFp {
 
     // Shifted left until the highest bit is set: at once, by the number of zeros above the highest bit set.
     pub fn normalize<P: Pattern>(self) -> DiyFp
-        requires { StandsIn P.width (Shiftable P.width P.width.N) self.f self.e }
-        ensures { Becomes P.width (shifted P.width.N P.width.N) self.f self.e result.f result.e }
+        requires { StandsIn P.width (Shiftable P.width P.width.N) self }
+        ensures { Becomes P.width (shifted P.width.N P.width.N) self result }
     {
         let zeros = u64::leading_zeros(self.f) - (64 - P::PAIR);
         DiyFp {
@@ -78,8 +78,8 @@ impl DiyFp {
 
     // The lower boundary where it lies, before it is brought to the upper's exponent.
     fn below<P: Pattern>(self) -> DiyFp
-        requires { StandsIn P.width (Finite P.width) self.f self.e }
-        ensures { Becomes P.width (below P.width) self.f self.e result.f result.e }
+        requires { StandsIn P.width (Finite P.width) self }
+        ensures { Becomes P.width (below P.width) self result }
     {
         let hidden = hidden_bit::<P>();
         let by = if self.f == hidden { 2 } else { 1 };
@@ -91,8 +91,8 @@ impl DiyFp {
 
     // The two boundaries of a finite magnitude other than zero.
     pub fn normalized_boundaries<P: Pattern>(self) -> Boundaries
-        requires { StandsIn P.width (Finite P.width) self.f self.e }
-        ensures { Bounds P.width self.f self.e result.minus.f result.minus.e result.plus.f result.plus.e }
+        requires { StandsIn P.width (Finite P.width) self }
+        ensures { Bounds P.width self result }
     {
         let above = DiyFp {
             f: (self.f << 1) + 1,
@@ -107,10 +107,11 @@ impl DiyFp {
         Boundaries { minus, plus }
     }
 
-    // The product: exponents added, plus the bits of a significand, and the upper half of the significands' product, rounded.
+    // The product: exponents added, plus the bits of a significand, and the upper half of the significands' product, rounded. With one of
+    // them at the upper end of a word, that is the upper word.
     pub fn times<P: Pattern>(self, rhs: DiyFp) -> DiyFp
-        requires { Factor P.width self.f self.e × Near rhs.e }
-        ensures { Times P.width self.f self.e rhs.f rhs.e result.f result.e }
+        requires { Factor P.width self × Near rhs.e }
+        ensures { Times P.width self rhs result }
     {
         let aligned = self.f << (64 - P::PAIR);
         let whole = aligned as u128 * rhs.f as u128;
@@ -124,7 +125,7 @@ impl DiyFp {
 // The power of ten that scales an upper boundary of exponent e.
 pub fn get_cached_power<P: Powers>(e: i32) -> CachedPower
     requires { Served P.width e }
-    ensures { (E : ℕ) → e ≡ sub_ℕ E (off P.width) → Cached P.width E result.power.f result.power.e result.k }
+    ensures { (E : ℕ) → e ≡ sub_ℕ E (off P.width) → Cached P.width E result }
 {
     let index = powers::index_of(powers::power_k::<P>(e));
     let power = DiyFp {

@@ -22,8 +22,11 @@ use Rattle.theorems.proofs.Boundaries.{Finite, one_exponent, exponent_most, uppe
 use Rattle.theorems.proofs.Power.{reach}
 use Rattle.theorems.proofs.Scale.{Scales, finite_scales}
 use Rattle.theorems.proofs.Widths.{Sound}
-use Rattle.diyfp.specs.Pairs.{Stands, StandsIn, Shiftable, Becomes, Bounds, Near, Factor, Times}
-use Rattle.powers.specs.Powers.{Served, Cached}
+use Rattle.diyfp.specs.declared.Boundaries.{Boundaries}
+use Rattle.diyfp.specs.declared.CachedPower.{CachedPower}
+use Rattle.diyfp.specs.declared.DiyFp.{DiyFp}
+use Rattle.diyfp.specs.Pairs.{Stands, StandsIn, Shiftable, Becomes, Bounds, Near, Factor, Cached, Times}
+use Rattle.powers.specs.Powers.{Served}
 use Rattle.patterns.specs.Small.{Small}
 use Rattle.grisu.specs.Grisu.{ScaledTo}
 
@@ -49,10 +52,10 @@ module _ {w : Width} {q : ℕ} (sound : Sound w q) (small : Small w) {m : Pair} 
   at_E is = near_difference E (off w) is (omega (arith, most, small.sum)) (omega (arith, small.sum))
 
   -- The boundaries and the value are factors of N bits, with exponents near zero, and the power's exponent is so.
-  pub upper_factor : {f : ℕ} {e : ℤ} → Stands w (upper w m) f e → Factor w f e
+  pub upper_factor : {p : DiyFp} → Stands w (upper w m) p → Factor w p
   upper_factor s = record { fits = omega (arith, s.significand, (upper-shifted w q sound m h).fits); near = at_E s.exponent }
 
-  pub lower_factor : {f : ℕ} {e : ℤ} → Stands w (lower w m) f e → Factor w f e
+  pub lower_factor : {p : DiyFp} → Stands w (lower w m) p → Factor w p
   unfolding lower
   lower_factor s =
       record {
@@ -60,26 +63,26 @@ module _ {w : Width} {q : ℕ} (sound : Sound w q) (small : Small w) {m : Pair} 
         near = at_E s.exponent;
       }
 
-  pub value_factor : {f : ℕ} {e : ℤ} → Stands w (value w m) f e → Factor w f e
+  pub value_factor : {p : DiyFp} → Stands w (value w m) p → Factor w p
   value_factor s =
       record {
         fits = omega (arith, s.significand, (value_shifted w q sound m h).fits);
         near = at_E (s.exponent ∙ ap (λ (x : ℕ). sub_ℕ x (off w)) (one_exponent w q sound m h));
       }
 
-  pub power_near : {f : ℕ} {e k : ℤ} → Cached w E f e k → Near e
+  pub power_near : {c : CachedPower} → Cached w E c → Near c.power.e
   power_near c =
       near_difference y w.twos c.exponent (omega (arith, (reach w q sound E most).least_x, small.sum)) (omega (arith, small.sum))
 
   -- The upper boundary's exponent is read as it was written, and the table serves it.
-  pub upper_read : {f : ℕ} {e : ℤ} → Stands w (upper w m) f e → read e ≡ sub_ℕ E (off w)
+  pub upper_read : {p : DiyFp} → Stands w (upper w m) p → read p.e ≡ sub_ℕ E (off w)
   upper_read s = unchanged {a = E} {b = off w} (record { is = s.exponent }) (omega (arith, most, small.sum)) ∙ s.exponent
 
-  pub serves : {f : ℕ} {e : ℤ} → Stands w (upper w m) f e → Served w (read e)
+  pub serves : {p : DiyFp} → Stands w (upper w m) p → Served w (read p.e)
   serves s = record { raised = E; exponent = upper_read s; most = most }
 
   -- The magnitude can be shifted until its highest bit is set.
-  pub shiftable : {f : ℕ} {e : ℤ} → Stands w m f e → StandsIn w (Shiftable w w.N) f e
+  pub shiftable : {p : DiyFp} → Stands w m p → StandsIn w (Shiftable w w.N) p
   shiftable s =
       record {
         pair = m;
@@ -101,9 +104,8 @@ module _ {w : Width} {q : ℕ} (sound : Sound w q) (small : Small w) {m : Pair} 
     pub exponent : Is he (E + y + w.N) (off w + w.twos)
     pub power : k ≡ neg_ℤ (P w (index w E))
 
-  pub products : {pf mf vf cf hf lf wf : ℕ} {pe me ve ce k he le we : ℤ} → Stands w (upper w m) pf pe → Stands w (lower w m) mf me →
-      Stands w (value w m) vf ve → Cached w E cf ce k → Times w pf pe cf ce hf he → Times w mf me cf ce lf le → Times w vf ve cf ce wf we →
-      Products hf lf wf he k
+  pub products : {u l v hp lp mp : DiyFp} {c : CachedPower} → Stands w (upper w m) u → Stands w (lower w m) l → Stands w (value w m) v →
+      Cached w E c → Times w u c.power hp → Times w l c.power lp → Times w v c.power mp → Products hp.f lp.f mp.f hp.e c.k
   products plus minus middle cached high low mid =
       record {
         high = high.significand ∙ ap₂ (product w) plus.significand cached.significand;
@@ -121,9 +123,9 @@ module _ {w : Width} {q : ℕ} (sound : Sound w q) (small : Small w) {m : Pair} 
       }
 
   -- The same from what the calls that make the factors say.
-  pub made : {f pf mf vf cf hf lf wf : ℕ} {e pe me ve ce k he le we : ℤ} → Stands w m f e → Bounds w f e mf me pf pe →
-      Becomes w (value w) f e vf ve → ((n : ℕ) → read pe ≡ sub_ℕ n (off w) → Cached w n cf ce k) →
-      Times w pf pe cf ce hf he → Times w mf me cf ce lf le → Times w vf ve cf ce wf we → Products hf lf wf he k
+  pub made : {p v hp lp mp : DiyFp} {b : Boundaries} {c : CachedPower} → Stands w m p → Bounds w p b → Becomes w (value w) p v →
+      ((n : ℕ) → read b.plus.e ≡ sub_ℕ n (off w) → Cached w n c) → Times w b.plus c.power hp → Times w b.minus c.power lp →
+      Times w v c.power mp → Products hp.f lp.f mp.f hp.e c.k
   made stands bounds values caches high low mid =
       let plus = bounds.plus _ stands in
       products plus (bounds.minus _ stands) (values _ stands) (caches _ (upper_read plus)) high low mid
@@ -183,7 +185,7 @@ module _ {w : Width} {q : ℕ} (sound : Sound w q) (small : Small w) {m : Pair} 
         (omega (arith, small.sum, (reach w q sound E most).inside))
 
     -- What the pairs give is what the rules ask for.
-    pub scales_to : ScaledTo w m (hf - 1) wf (hf - 1 - (lf + 1)) (nat_abs (read (pos 0 -ℤ read he))) (read k)
+    pub scales_to : ScaledTo w m (record { numbers = record { h = hf - 1; w = wf; delta = hf - 1 - (lf + 1); x = nat_abs (read (pos 0 -ℤ read he)) }; k = read k })
     unfolding scaled
     scales_to =
         record { high = high_is; middle = middle_is; room = room_is; shift = ap nat_abs shift_is; power = power_back ∙ p.power }

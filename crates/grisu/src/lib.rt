@@ -20,7 +20,7 @@ struct Start {
 // Scales the boundaries and the value of a finite magnitude by one power of ten.
 fn scale<P: Powers>(pattern: P) -> Start
     requires { Finite P.width (magnitude P.width (P.number pattern)) }
-    ensures { ScaledTo P.width (magnitude P.width (P.number pattern)) result.numbers.h result.numbers.w result.numbers.delta result.numbers.x result.k }
+    ensures { ScaledTo P.width (magnitude P.width (P.number pattern)) result }
 {
     let v = DiyFp::from_bits(pattern);
     let b = v.normalized_boundaries::<P>();
@@ -52,7 +52,7 @@ pub fn grisu2<P: Powers>(pattern: P, buf: &mut [u8]) -> Decimal
     requires finite { Finite P.width (magnitude P.width (P.number pattern)) }
     requires in_bounds { P.digits < length buf.old }
     requires nine { 9 ≤ length buf.old }
-    ensures { Decided P.width (magnitude P.width (P.number pattern)) result.len result.k buf.old buf.new }
+    ensures { Decided P.width (magnitude P.width (P.number pattern)) result buf.old buf.new }
 {
     let s = scale(pattern);
     let d = s.numbers.digit_gen(buf);

@@ -1,4 +1,3 @@
 pub mod Casts
 pub mod Slopes
 pub mod Indexing
-pub mod Caching

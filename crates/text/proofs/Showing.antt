@@ -7,7 +7,7 @@ use native.Mathlib.Nat.{pos_of_ne-zero}
 use native.Mathlib.Omega.{arith}
 use lib.Dec.{T, eqb, T_not}
 use lib.Ieee.Fits.{eq→eqb}
-use lib.IntN.{ℤ, nat_abs}
+use lib.IntN.{nat_abs}
 use lib.ListN.{length, take}
 use lib.Seq.{take_at}
 use Rattle.laws.specs.Puts.{Puts}
@@ -28,6 +28,7 @@ use Rattle.theorems.proofs.Printable.{Printable}
 use Rattle.theorems.proofs.Decimal.{printed}
 use Rattle.theorems.proofs.RoundTrip.{laid_text}
 use Rattle.theorems.proofs.TextLength.{layout_covers}
+use Rattle.grisu.specs.declared.Decimal.{Decimal}
 use Rattle.grisu.specs.Grisu.{Decided}
 use Rattle.layout.specs.Layout.{Laying}
 
@@ -44,9 +45,9 @@ module _ {w : Width} {q : ℕ} (p : Printable w q) where
   pub is_finite : (v : ℕ) → T (not (special w v)) → T (not (eqb (magnitude w v).f 0)) → Finite w (magnitude w v)
   is_finite v ordinary some = finite w v p.sound.finite ordinary (above_zero (magnitude w v).f some)
 
-  module _ {m : Pair} (f : Finite w m) {len : ℕ} {k : ℤ} {old mid : List ℕ} (d : Decided w m len k old mid) where
+  module _ {m : Pair} (f : Finite w m) {n : Decimal} {old mid : List ℕ} (d : Decided w m n old mid) where
     -- Its digits can be laid out.
-    pub lays : 24 ≤ length old → Laying len (length mid)
+    pub lays : 24 ≤ length old → Laying n.len (length mid)
     lays room =
         let t = printed w q p m f in
         record {
@@ -56,19 +57,19 @@ module _ {w : Width} {q : ℕ} (p : Printable w q) where
         }
 
     -- Its exponent is read as it was written, and small.
-    pub exponent_back : read k ≡ k
+    pub exponent_back : read n.k ≡ n.k
     exponent_back =
         let t = printed w q p m f in
         unchanged {a = t.up} {b = t.down} (record { is = d.exponent_is ∙ t.k_is }) (small_apart t.up t.down (rw t.k_is at t.near))
 
-    pub exponent_small : nat_abs (read k) < 900
+    pub exponent_small : nat_abs (read n.k) < 900
     exponent_small = rw (exponent_back, d.exponent_is) (printed w q p m f).near
 
     -- What is laid out over the digits is the magnitude's text.
-    pub shows : {new : List ℕ} {next : ℕ} → Puts (layout (take len mid) (read k)) mid 0 new next → Puts (shown w m) old 0 new next
+    pub shows : {new : List ℕ} {next : ℕ} → Puts (layout (take n.len mid) (read n.k)) mid 0 new next → Puts (shown w m) old 0 new next
     shows laid =
         let digits = numeral (decimal w m).len (decimal w m).digits in
-        let n = length-numeral (decimal w m).len (decimal w m).digits in
-        let first : take len mid ≡ digits = ap (take len) (from_start d.text) ∙ take_at digits _ len (n ∙ sym d.length_is) in
-        let text : layout (take len mid) (read k) ≡ layout digits (decimal w m).k = ap₂ layout first (exponent_back ∙ d.exponent_is) in
+        let long = length-numeral (decimal w m).len (decimal w m).digits in
+        let first : take n.len mid ≡ digits = ap (take n.len) (from_start d.text) ∙ take_at digits _ n.len (long ∙ sym d.length_is) in
+        let text : layout (take n.len mid) (read n.k) ≡ layout digits (decimal w m).k = ap₂ layout first (exponent_back ∙ d.exponent_is) in
         rw (laid_text w m f.some) (over d.text (rw text at laid) (omega (arith, layout_covers w q p m f)))

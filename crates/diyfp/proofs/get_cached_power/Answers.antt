@@ -7,7 +7,7 @@ use lib.ListN.{length}
 use mir.Syntax.{w32}
 use mir.Val.{to_z}
 use Rattle.powers.proofs.Casts.{cast}
-use Rattle.powers.proofs.Caching.{has_index, inside, eightfold, decimal_held, cached}
+use Rattle.diyfp.proofs.Caching.{has_index, inside, eightfold, decimal_held, cached}
 use Rattle.diyfp.proofs.get_cached_power.Given.{Over}
 use Rattle.diyfp.proofs.get_cached_power.Goals as goal
 use Rattle.diyfp.proofs.get_cached_power.Goals.{After-index_of-index, After-TENS}

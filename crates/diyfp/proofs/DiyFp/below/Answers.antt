@@ -12,7 +12,7 @@ use Rattle.diyfp.proofs.DiyFp.below.Goals as goal
 use Rattle.diyfp.proofs.DiyFp.below.Goals.{After-hidden_bit-hidden, then-self-hidden, else-self-hidden}
 
 -- The significand times 2 or 4.
-times : (g : Over) (c : After-hidden_bit-hidden g) (d : ℕ) → d ≤ 4 → (m : Pair) → Stands g.P.Pattern.width m c.args.self.f c.args.self.e →
+times : (g : Over) (c : After-hidden_bit-hidden g) (d : ℕ) → d ≤ 4 → (m : Pair) → Stands g.P.Pattern.width m c.args.self →
     c.args.self.f * d % 2 ^ 64 ≡ d * m.f
 times g c d few =
     let word = pow_mono {i = g.P.Pattern.width.S + 3} {j = 64} (omega (arith, g.met.P.Pattern.numbers.few)) in

@@ -15,9 +15,10 @@ use Rattle.rules.specs.Width.{Width, off}
 use Rattle.rules.specs.Power.{k, index, P}
 use Rattle.theorems.proofs.Widths.{Sound}
 use Rattle.theorems.proofs.Power.{Reach, reach}
-use Rattle.powers.specs.Powers.{Served, Indexable, Cached}
+use Rattle.powers.specs.Powers.{Served, Indexable}
 use Rattle.patterns.specs.Small.{Small}
 use Rattle.powers.proofs.Indexing.{most, k_read, k_indexable}
+use Rattle.diyfp.specs.Pairs.{Cached}
 
 module _ {w : Width} {q : ℕ} (sound : Sound w q) (small : Small w) {e : ℤ} (p : Served w e) where
   -- The exponent itself is held ..
@@ -67,7 +68,7 @@ module _ {w : Width} {q : ℕ} (sound : Sound w q) (small : Small w) {e : ℤ} (
 
       -- .. and so is the binary one: the pair is the entry.
       pub cached : {f : ℕ} {x : ℤ} → f ≡ get_or w.significands i 0 → x ≡ sub_ℕ (get_or w.exponents i 0) w.twos →
-          (E : ℕ) → e ≡ sub_ℕ E (off w) → Cached w E f (read x) (read (pos w.tens -ℤ to_z w32 (i * 8 % 2 ^ 64)))
+          (E : ℕ) → e ≡ sub_ℕ E (off w) → Cached w E (record { power = record { f = f; e = read x }; k = read (pos w.tens -ℤ to_z w32 (i * 8 % 2 ^ 64)) })
       unfolding P
       cached {f} {x} significand exponent E is =
           let held : Is x (get_or w.exponents i 0) w.twos = record { is = exponent } in
