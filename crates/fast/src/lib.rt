@@ -1,18 +1,11 @@
 // The quick way of reading: one multiplication or division by an exact power of ten, rounded once.
 #![tactic(auto)]
 
-ghost use Rattle.std.specs.Prelude.{false, ◌≡◌, ℕ, ◌+◌, ◌*◌, ◌^◌, ◌≤◌};
+ghost use Rattle.std.specs.Prelude.{false, ◌≡◌, ◌*◌, ◌^◌, ◌≤◌, IfSome};
 ghost use Rattle.std.specs.Float.Ieee.Exact.{HasValue};
 ghost use Rattle.rules.specs.Reading.{nearest};
 ghost use Rattle.rules.specs.Width.{w64};
 ghost use Rattle.fast.specs.Quick.{Trims, Finds};
-
-// A pattern, or none where the digits or the power are not exact.
-#[derive(Clone, Copy)]
-pub enum Quick {
-    Pattern(u64),
-    None,
-}
 
 // Digits, and the place of the last of them.
 #[derive(Clone, Copy)]
@@ -68,7 +61,7 @@ fn times(m: u64, k: u32) -> u64
     requires { (m ≤ 2 ^ 53) × (k ≤ 22) }
     ensures { result ≡ nearest w64 (m * 10 ^ k) 1 }
 {
-    f64::to_bits((m as f64) * ten(k))
+    (m as f64 * ten(k)).to_bits()
 }
 
 // The nearest pattern to m / 10^k.
@@ -76,13 +69,13 @@ fn over(m: u64, k: u32) -> u64
     requires { (m ≤ 2 ^ 53) × (k ≤ 22) }
     ensures { result ≡ nearest w64 m (10 ^ k) }
 {
-    f64::to_bits((m as f64) / ten(k))
+    (m as f64 / ten(k)).to_bits()
 }
 
 // The nearest pattern to digits at a place, both exact.
 fn scaled(digits: u64, place: u32) -> u64
     requires { (digits ≤ 2 ^ 53) × (10078 ≤ place) × (place ≤ 10122) }
-    ensures { (up down : ℕ) → place + down ≡ 10100 + up → result ≡ nearest w64 (digits * 10 ^ up) (10 ^ down) }
+    ensures { Finds w64 digits place result }
 {
     if place < UNIT {
         return over(digits, UNIT - place);
@@ -90,43 +83,29 @@ fn scaled(digits: u64, place: u32) -> u64
     times(digits, place - UNIT)
 }
 
-// Digits without the zeros at their end, as far as there are too many.
+// Digits without the zeros at their end, as far as there are too many. The digits say how often the loop turns, and an iterator over
+// them would have to carry the place beside each.
 fn trim(digits: u64, place: u32) -> Trimmed
     requires { place ≤ 30000 }
     ensures { Trims digits place result.digits result.place }
 {
-    let mut d = digits;
-    let mut p = place;
-    while EXACT < d {
-        if d % 10 != 0 {
-            return Trimmed {
-                digits: d,
-                place: p,
-            };
-        }
-        d /= 10;
-        p += 1;
+    let mut t = Trimmed { digits, place };
+    while EXACT < t.digits && t.digits % 10 == 0 {
+        t.digits /= 10;
+        t.place += 1;
     }
-    Trimmed {
-        digits: d,
-        place: p,
-    }
+    t
 }
 
-// The nearest pattern to digits at a place, where one multiplication or division finds it.
-pub fn quickly(digits: u64, place: u32) -> Quick
+// The nearest pattern to digits at a place, where both are exact, and so one multiplication or division finds it.
+pub fn quickly(digits: u64, place: u32) -> Option<u64>
     requires { place ≤ 30000 }
-    ensures { Finds digits place result }
+    ensures { IfSome result (λ v. Finds w64 digits place v) }
 {
     let t = trim(digits, place);
-    if EXACT < t.digits {
-        return Quick::None;
+    if t.digits <= EXACT && FIRST <= t.place && t.place <= LAST {
+        Some(scaled(t.digits, t.place))
+    } else {
+        None
     }
-    if t.place < FIRST {
-        return Quick::None;
-    }
-    if LAST < t.place {
-        return Quick::None;
-    }
-    Quick::Pattern(scaled(t.digits, t.place))
 }

@@ -15,7 +15,6 @@ use Rattle.scan.specs.Mantissa.{mantissa, behind_sign}
 use Rattle.scan.specs.Scans.{Says}
 use Rattle.closest.specs.declared.Target.{Target}
 use Rattle.closest.specs.Targets.{Targets}
-use Rattle.fast.specs.declared.Quick.TheVariants as quick
 use Rattle.fast.specs.Quick.{Finds}
 use Rattle.bounds.specs.Around.{Within, AtOnce, Around}
 use Rattle.settle.specs.Settles.{Settles}
@@ -68,7 +67,7 @@ module _ (w : Width) (spanned : Spanned w) (t : List ℕ) (x : Decimal) where
             same w spanned.readable is s.up s.down (omega (arith, s.place, s.few)) e.above e.below
 
 -- The quick way, where no digit is left out.
-pub found_quickly : (t : List ℕ) (x : Decimal) (v : ℕ) → x.more ≡ false → Finds x.digits x.place (quick.Pattern v) → Reads w64 t x v
+pub found_quickly : (t : List ℕ) (x : Decimal) (v : ℕ) → x.more ≡ false → Finds w64 x.digits x.place v → Reads w64 t x v
 found_quickly t x v all finds s =
     finds (s.up + x.dropped) s.down s.place
     ∙ ap (λ (n : ℕ). nearest w64 n (10 ^ s.down)) (rw (pow-add 10 s.up x.dropped, s.kept.whole all) (omega arith))

@@ -15,7 +15,6 @@ ghost use Rattle.patterns.specs.Spanned.{Spanned};
 
 use bounds::Product;
 use closest::Target;
-use fast::Quick;
 use scan::Scanned;
 
 // How reading as binary32 ended: with a pattern, or refused by the text's length or its form.
@@ -159,8 +158,7 @@ fn tabled64(
         }
     }
     if !more {
-        let q = fast::quickly(digits, place);
-        if let Quick::Pattern(v) = q {
+        if let Some(v) = fast::quickly(digits, place) {
             return v;
         }
     }

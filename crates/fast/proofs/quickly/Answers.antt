@@ -7,8 +7,8 @@ use Rattle.rules.specs.Width.{w64}
 use Rattle.fast.proofs.Places.{trimmed_same}
 use Rattle.fast.proofs.quickly.Goals as goal
 
-pub returns : goal.returns
-returns c =
+pub returns-then-t-le-LAST : goal.returns-then-t-le-LAST
+returns-then-t-le-LAST c =
     let t = c.trim-t in
     λ up down at.
     c.scaled.ensures (up + t.ensures.zeros) down (omega (arith, t.ensures.place_is))

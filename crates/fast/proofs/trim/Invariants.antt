@@ -2,8 +2,8 @@
 use Rattle.fast.specs.Quick.{Trims}
 use Rattle.fast.proofs.trim.Given as goal
 
-abbrev pub invariant-loop-d : goal.invariant-loop-d
-invariant-loop-d l = Trims l.digits l.place l.d l.p
+abbrev pub invariant-loop-t : goal.invariant-loop-t
+invariant-loop-t l = Trims l.digits l.place l.t.digits l.t.place
 
-abbrev pub decreases-loop-d : goal.decreases-loop-d
-decreases-loop-d l = l.d
+abbrev pub decreases-loop-t : goal.decreases-loop-t
+decreases-loop-t l = l.t.digits
