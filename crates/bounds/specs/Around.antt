@@ -4,8 +4,6 @@ use Rattle.rules.specs.Width.{Width}
 use Rattle.rules.specs.Reading.{nearest}
 use Rattle.theorems.proofs.Readable.{Readable}
 use Rattle.scan.specs.Kept.{Kept}
-use Rattle.closest.specs.declared.Target.{Target}
-use Rattle.closest.specs.Targets.{Targets}
 
 -- How many units a product leaves open.
 abbrev pub Opens : Bool → ℕ → Type 0
@@ -25,23 +23,20 @@ pub record Raised (m e : ℕ) : Type 0 where
 
 -- A number of which the digits w are kept, the last of them at the place of 10^(i - 342), lies from m * 2^e / 2^1200 on to as many units above as are open.
 pub record Bounds (digits i m e : ℕ) : Type 0 where
-  pub raised : Raised m e
   pub reads : (w : Width) → Readable w → (more : Bool) (far : ℕ) → Opens more far → (a d up down : ℕ) → Kept a digits d more → i + down ≡ 342 + (up + d) →
       Within (nearest w (a * 10 ^ up) (10 ^ down)) (nearest w (m * 2 ^ e) (2 ^ 1200)) (nearest w ((m + far) * 2 ^ e) (2 ^ 1200))
 
--- A pattern other than 0 is what both ends read as.
-abbrev pub Apart : ℕ → ℕ → ℕ → Target → ℕ → Type 0
-Apart m far e t v =
-    0 < v → (w : Width) → Readable w → Targets t w → (v ≡ nearest w (m * 2 ^ e) (2 ^ 1200)) × (nearest w ((m + far) * 2 ^ e) (2 ^ 1200) ≤ v)
+-- The pattern v is what both ends read as.
+abbrev pub Apart : Width → ℕ → ℕ → ℕ → ℕ → Type 0
+Apart w m far e v = (v ≡ nearest w (m * 2 ^ e) (2 ^ 1200)) × (nearest w ((m + far) * 2 ^ e) (2 ^ 1200) ≤ v)
 
--- A pattern other than 0 is what each number reads as that a product bounds.
-abbrev pub AtOnce : ℕ → Bool → ℕ → Target → ℕ → Type 0
-AtOnce m more e t v =
-    0 < v → (w : Width) → Readable w → Targets t w → (digits i a d up down : ℕ) → Bounds digits i m e → Kept a digits d more → i + down ≡ 342 + (up + d) →
-    v ≡ nearest w (a * 10 ^ up) (10 ^ down)
+-- It is what each number reads as that a product bounds.
+abbrev pub AtOnce : Width → ℕ → Bool → ℕ → ℕ → Type 0
+AtOnce w m more e v =
+    (digits i a d up down : ℕ) → Bounds digits i m e → Kept a digits d more → i + down ≡ 342 + (up + d) → v ≡ nearest w (a * 10 ^ up) (10 ^ down)
 
 -- What each such number reads as is one of the patterns from `least` to `most`.
-abbrev pub Around : ℕ → Bool → ℕ → Target → ℕ → ℕ → Type 0
-Around m more e t least most =
-    (w : Width) → Readable w → Targets t w → (digits i a d up down : ℕ) → Bounds digits i m e → Kept a digits d more → i + down ≡ 342 + (up + d) →
+abbrev pub Around : Width → ℕ → Bool → ℕ → ℕ → ℕ → Type 0
+Around w m more e least most =
+    (digits i a d up down : ℕ) → Bounds digits i m e → Kept a digits d more → i + down ≡ 342 + (up + d) →
     Within (nearest w (a * 10 ^ up) (10 ^ down)) least most

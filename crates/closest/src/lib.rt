@@ -1,56 +1,31 @@
-// Rounding to the nearest pattern of a width, whose numbers are given.
+// Rounding to the nearest pattern of a width.
 #![tactic(auto)]
 
-ghost use Rattle.std.specs.Prelude.{◌≡◌, ◌*◌, ◌^◌, ◌≤◌, ◌<◌};
+ghost use Rattle.std.specs.Prelude.{◌≡◌, ◌+◌, ◌*◌, ◌^◌, ◌≤◌, ◌<◌};
 ghost use Rattle.std.specs.Float.Ieee.Nearest.{closest};
-ghost use Rattle.rules.specs.Width.{Width, w32, w64};
-ghost use Rattle.rules.specs.Reading.{nearest};
-ghost use Rattle.closest.specs.Targets.{Targets, Sized};
+ghost use Rattle.rules.specs.Reading.{infinity, low, nearest};
 
-// The numbers of a width: the bits of its significand, 1200 less the power of two of its unit, and an exponent field of ones.
-#[derive(Clone, Copy)]
-pub struct Target {
-    pub fraction: u32,
-    pub base: u32,
-    pub ones: u32,
-}
-
-// Binary32's: its unit is 2^-149.
-pub fn binary32() -> Target
-    ensures { Targets result w32 × Sized result }
-{
-    Target {
-        fraction: 23,
-        base: 1051,
-        ones: 255,
-    }
-}
-
-// Binary64's: its unit is 2^-1074.
-pub fn binary64() -> Target
-    ensures { Targets result w64 × Sized result }
-{
-    Target {
-        fraction: 52,
-        base: 126,
-        ones: 2047,
-    }
-}
+use patterns::Pattern;
 
 // The hidden bit of a width's significands.
-pub fn hidden_bit(t: Target) -> u64
-    requires { Sized t }
-    ensures { result ≡ 2 ^ t.fraction }
+pub fn hidden_bit<P: Pattern>() -> u64
+    ensures { result ≡ 2 ^ P.width.S }
 {
-    1 << t.fraction
+    1 << P::FRACTION
 }
 
 // The pattern of a width's infinity.
-pub fn infinity(t: Target) -> u64
-    requires { Sized t }
-    ensures { result ≡ t.ones * 2 ^ t.fraction }
+pub fn infinity<P: Pattern>() -> u64
+    ensures { result ≡ infinity P.width }
 {
-    t.ones as u64 * hidden_bit(t)
+    u64::from(P::ONES) << P::FRACTION
+}
+
+// The exponent of a width's unit, 2^-low, with 1200 added, as the exponents of significands have it.
+pub fn unit<P: Pattern>() -> u32
+    ensures { result + low P.width ≡ 1200 }
+{
+    1201 - P::BIAS - P::FRACTION
 }
 
 // m / 2^j, to the nearest whole number, ties to the even one. Twice the quotient has the half as its last bit; it rounds up where
@@ -70,30 +45,31 @@ pub fn round_shift(m: u64, j: u32) -> u64
 }
 
 // The nearest pattern to m * 2^e / 2^1200, where bit 63 of m is set.
-fn pack_high(m: u64, e: u32, t: Target) -> u64
-    requires { (2 ^ 63 ≤ m) × (e < 4000) × Sized t }
-    ensures { (w : Width) → Targets t w → result ≡ nearest w (m * 2 ^ e) (2 ^ 1200) }
+fn pack_high<P: Pattern>(m: u64, e: u32) -> u64
+    requires { (2 ^ 63 ≤ m) × (e < 4000) }
+    ensures { result ≡ nearest P.width (m * 2 ^ e) (2 ^ 1200) }
 {
-    let cut = 63 - t.fraction;
-    if e + cut < t.base {
-        let below = t.base - e;
+    let cut = 63 - P::FRACTION;
+    let unit = unit::<P>();
+    if e + cut < unit {
+        let below = unit - e;
         if 64 < below {
             return 0;
         }
         return round_shift(m, below);
     }
-    let field = e + cut - t.base;
-    if t.ones <= field + 1 {
-        return (t.ones as u64) << t.fraction;
+    let field = e + cut - unit;
+    if P::ONES <= field + 1 {
+        return infinity::<P>();
     }
-    ((field as u64) << t.fraction) + round_shift(m, cut)
+    (u64::from(field) << P::FRACTION) + round_shift(m, cut)
 }
 
 // The nearest pattern to m * 2^e / 2^1200.
-pub fn pack(m: u64, e: u32, t: Target) -> u64
-    requires { (2 ^ 62 ≤ m) × (0 < e) × (e < 4000) × Sized t }
-    ensures { (w : Width) → Targets t w → result ≡ nearest w (m * 2 ^ e) (2 ^ 1200) }
+pub fn pack<P: Pattern>(m: u64, e: u32) -> u64
+    requires { (2 ^ 62 ≤ m) × (0 < e) × (e < 4000) }
+    ensures { result ≡ nearest P.width (m * 2 ^ e) (2 ^ 1200) }
 {
-    let zeros = u64::leading_zeros(m);
-    pack_high(m << zeros, e - zeros, t)
+    let zeros = m.leading_zeros();
+    pack_high::<P>(m << zeros, e - zeros)
 }

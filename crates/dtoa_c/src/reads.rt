@@ -1,11 +1,12 @@
 // Reading, as functions of C's.
+ghost use Rattle.std.specs.Prelude.{◌≡◌};
 ghost use Rattle.rules.specs.Width.{w32, w64};
-ghost use Rattle.reader.specs.Told.{told32, told64};
+ghost use Rattle.reader.specs.Told.{told};
 ghost use Rattle.dtoa_c.specs.Returned.{Told, Returned};
 
-use reader::{Outcome32, Outcome64};
+use reader::ReadError;
 
-// An answer of 32 bits: the pattern and 0, or 0 and the number of a refusal.
+// An answer of 32 bits: the pattern and 0, or 0 and the number of a refusal. C's structs have no type parameter, so this one and the next are two.
 #[repr(C)]
 #[derive(Clone, Copy)]
 pub struct DtoaRead32 {
@@ -21,43 +22,36 @@ pub struct DtoaRead64 {
     pub number: u32,
 }
 
-// An outcome as its pattern and its number.
-fn answered32(o: Outcome32) -> DtoaRead32
-    ensures { Told (told32 o) result.number result.pattern }
+// An outcome's number.
+fn number<P: Copy>(o: Result<P, ReadError>) -> u32
+    ensures { (f : _) → result ≡ (told f o).number }
 {
     match o {
-        Outcome32::Pattern(v) => DtoaRead32 {
-            pattern: v,
-            number: 0,
-        },
-        Outcome32::WrongLength => DtoaRead32 {
-            pattern: 0,
-            number: 10,
-        },
-        Outcome32::WrongForm => DtoaRead32 {
-            pattern: 0,
-            number: 11,
-        },
+        Ok(_) => 0,
+        Err(ReadError::WrongLength) => 10,
+        Err(ReadError::WrongForm) => 11,
     }
 }
 
-// The same of 64 bits.
-fn answered64(o: Outcome64) -> DtoaRead64
-    ensures { Told (told64 o) result.number result.pattern }
-{
-    match o {
-        Outcome64::Pattern(v) => DtoaRead64 {
-            pattern: v,
-            number: 0,
-        },
-        Outcome64::WrongLength => DtoaRead64 {
-            pattern: 0,
-            number: 10,
-        },
-        Outcome64::WrongForm => DtoaRead64 {
-            pattern: 0,
-            number: 11,
-        },
+impl From<Result<u32, ReadError>> for DtoaRead32 {
+    ghost from_gives = { λ o r. Told (told (λ v. v) o) r.number r.pattern };
+
+    fn from(o: Result<u32, ReadError>) -> DtoaRead32 {
+        DtoaRead32 {
+            pattern: o.unwrap_or(0),
+            number: number(o),
+        }
+    }
+}
+
+impl From<Result<u64, ReadError>> for DtoaRead64 {
+    ghost from_gives = { λ o r. Told (told (λ v. v) o) r.number r.pattern };
+
+    fn from(o: Result<u64, ReadError>) -> DtoaRead64 {
+        DtoaRead64 {
+            pattern: o.unwrap_or(0),
+            number: number(o),
+        }
     }
 }
 
@@ -66,7 +60,7 @@ fn answered64(o: Outcome64) -> DtoaRead64
 pub extern "C" fn dtoa_read32(text: &[u8]) -> DtoaRead32
     ensures { Returned w32 text.now result.number result.pattern }
 {
-    answered32(reader::read32(text))
+    DtoaRead32::from(reader::read::<u32>(text))
 }
 
 // Reads a text as binary64.
@@ -74,5 +68,5 @@ pub extern "C" fn dtoa_read32(text: &[u8]) -> DtoaRead32
 pub extern "C" fn dtoa_read64(text: &[u8]) -> DtoaRead64
     ensures { Returned w64 text.now result.number result.pattern }
 {
-    answered64(reader::read64(text))
+    DtoaRead64::from(reader::read::<u64>(text))
 }

@@ -3,7 +3,7 @@
 
 ghost use Rattle.std.specs.Prelude.{◌≤◌};
 
-use reader::{Outcome32, Outcome64};
+use reader::ReadError;
 use std::io;
 use std::io::Read;
 
@@ -63,15 +63,15 @@ fn complain(rt: &impl Eprint, number: u64, why: &str) {
 
 // Reads what a whole line says, at both widths.
 fn finish(rt: &(impl Print + Eprint), line: &Line) -> io::Result<()> {
-    let single = reader::read32(line.text());
-    match reader::read64(line.text()) {
-        Outcome64::Pattern(wide) => {
-            if let Outcome32::Pattern(narrow) = single {
+    let single = reader::read::<u32>(line.text());
+    match reader::read::<u64>(line.text()) {
+        Ok(wide) => {
+            if let Ok(narrow) = single {
                 println!(rt; "{narrow:08x} {wide:016x}")?;
             }
         }
-        Outcome64::WrongLength => complain(rt, line.number, "not 1 to 64 bytes"),
-        Outcome64::WrongForm => complain(rt, line.number, "not a number"),
+        Err(ReadError::WrongLength) => complain(rt, line.number, "not 1 to 64 bytes"),
+        Err(ReadError::WrongForm) => complain(rt, line.number, "not a number"),
     }
     Ok(())
 }

@@ -4,38 +4,33 @@ use mathlib.Core.List.{List}
 use mathlib.Core.Path.{◌≡◌, refl, sym, ap, ◌∙◌}
 use Prim.Native.Nat.{ℕ}
 use lib.Dec.{eqb}
-use Rattle.rules.specs.Width.{w32, w64}
+use Rattle.std.specs.Prelude.{Result, Ok, Err}
+use Rattle.rules.specs.Width.{Width, w32, w64}
 use Rattle.rules.specs.Reader.{Reading, reading}
-use Rattle.reader.specs.Told.{told32, told64}
-use Rattle.reader.specs.declared.Outcome32.{Outcome32}
-use Rattle.reader.specs.declared.Outcome32.TheVariants as outcome32
-use Rattle.reader.specs.declared.Outcome64.{Outcome64}
-use Rattle.reader.specs.declared.Outcome64.TheVariants as outcome64
-
--- Where the case can be found from its number and pattern, an answer has one case.
-once : {A : Type 0} (tell : A → Reading) (found : Reading → A) → ((o : A) → found (tell o) ≡ o) → {o p : A} {a : Reading} → tell o ≡ a → tell p ≡ a → o ≡ p
-once tell found back {o} {p} d e = sym (back o) ∙ ap found (d ∙ sym e) ∙ back p
+use Rattle.reader.specs.Told.{told}
+use Rattle.reader.specs.declared.ReadError.{ReadError}
+use Rattle.reader.specs.declared.ReadError.TheVariants.{WrongLength, WrongForm}
 
 -- One of three, by the number.
-by_number : {A : Type 0} → (ℕ → A) → A → A → Reading → A
-by_number pattern length form a =
-    elim (eqb a.number 0) [ true ↦ pattern a.pattern | false ↦ elim (eqb a.number 10) [ true ↦ length | false ↦ form ] ]
+by_number : {P : Type 0} → (ℕ → P) → Reading → Result P ReadError
+by_number found a =
+    elim (eqb a.number 0) [ true ↦ Ok (found a.pattern) | false ↦ elim (eqb a.number 10) [ true ↦ Err WrongLength | false ↦ Err WrongForm ] ]
 
-back32 : (o : Outcome32) → by_number outcome32.Pattern outcome32.WrongLength outcome32.WrongForm (told32 o) ≡ o
-unfolding by_number
-back32 (outcome32.Pattern v) = refl
-back32 outcome32.WrongLength = refl
-back32 outcome32.WrongForm = refl
+-- Where a pattern can be found from its number, an answer can be found from what it is told as.
+module _ {P : Type 0} (number : P → ℕ) (found : ℕ → P) (back : (v : P) → found (number v) ≡ v) where
+  told_back : (o : Result P ReadError) → by_number found (told number o) ≡ o
+  unfolding by_number
+  told_back (Ok v) = ap Ok (back v)
+  told_back (Err WrongLength) = refl
+  told_back (Err WrongForm) = refl
 
-back64 : (o : Outcome64) → by_number outcome64.Pattern outcome64.WrongLength outcome64.WrongForm (told64 o) ≡ o
-unfolding by_number
-back64 (outcome64.Pattern v) = refl
-back64 outcome64.WrongLength = refl
-back64 outcome64.WrongForm = refl
+  -- So any two results that the contract allows are equal, at every width.
+  pub read_once : (w : Width) (t : List ℕ) {o p : Result P ReadError} → told number o ≡ reading w t → told number p ≡ reading w t → o ≡ p
+  read_once w t {o} {p} d e = sym (told_back o) ∙ ap (by_number found) (d ∙ sym e) ∙ told_back p
 
--- Any two results that the contract allows are equal, at both widths.
-pub read32_once : (t : List ℕ) {o p : Outcome32} → told32 o ≡ reading w32 t → told32 p ≡ reading w32 t → o ≡ p
-read32_once t = once told32 (by_number outcome32.Pattern outcome32.WrongLength outcome32.WrongForm) back32
+-- The same of binary32 and of binary64, whose patterns are numbers.
+pub read32_once : (t : List ℕ) {o p : Result ℕ ReadError} → told (λ v. v) o ≡ reading w32 t → told (λ v. v) p ≡ reading w32 t → o ≡ p
+read32_once = read_once (λ v. v) (λ v. v) (λ v. refl) w32
 
-pub read64_once : (t : List ℕ) {o p : Outcome64} → told64 o ≡ reading w64 t → told64 p ≡ reading w64 t → o ≡ p
-read64_once t = once told64 (by_number outcome64.Pattern outcome64.WrongLength outcome64.WrongForm) back64
+pub read64_once : (t : List ℕ) {o p : Result ℕ ReadError} → told (λ v. v) o ≡ reading w64 t → told (λ v. v) p ≡ reading w64 t → o ≡ p
+read64_once = read_once (λ v. v) (λ v. v) (λ v. refl) w64

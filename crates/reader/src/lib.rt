@@ -1,43 +1,56 @@
 // Reading a text as the nearest pattern of binary32 or binary64.
 #![tactic(auto)]
 
-ghost use Rattle.std.specs.Prelude.{◌≡◌, ◌^◌, ◌≤◌, ◌<◌, length};
-ghost use Rattle.rules.specs.Width.{Width, w32, w64};
+ghost use Rattle.std.specs.Prelude.{◌≡◌, ◌≤◌, ◌<◌, IfSome, length, nat_eq, refl};
+ghost use Rattle.std.specs.Option.{ok_or};
 ghost use Rattle.rules.specs.Reading.{infinity, with_sign};
 ghost use Rattle.rules.specs.Reader.{quiet_nan, reading};
-ghost use Rattle.scan.specs.Scans.{Says};
-ghost use Rattle.closest.specs.Targets.{Targets, Sized};
+ghost use Rattle.scan.specs.Scans.{Says, Scans};
+ghost use Rattle.fast.specs.Quick.{Finds};
+ghost use Rattle.reader.specs.declared.ReadError.TheVariants.{WrongForm};
+ghost use Rattle.reader.specs.Told.{told};
 ghost use Rattle.reader.specs.Widths.{width_of};
-ghost use Rattle.reader.specs.Told.{told32, told64};
-ghost use Rattle.reader.specs.Reads.{decimal, Behind, Reads};
-ghost use Rattle.reader.specs.Scaled.{Scaled};
-ghost use Rattle.patterns.specs.Spanned.{Spanned};
+ghost use Rattle.reader.specs.Reads.{Reads};
+ghost use Rattle.reader.specs.Scaled.{Scaled, Scales};
 
 use bounds::Product;
-use closest::Target;
-use scan::Scanned;
+use patterns::Pattern;
+use scan::{Decimal, Scanned};
 
-// How reading as binary32 ended: with a pattern, or refused by the text's length or its form.
-#[derive(Clone, Copy)]
-pub enum Outcome32 {
-    Pattern(u32),
+// Why a text is not read: by its length, or by its form.
+#[derive(Clone, Copy, PartialEq, Eq, Debug)]
+pub enum ReadError {
     WrongLength,
     WrongForm,
 }
 
-// How reading as binary64 ended.
-#[derive(Clone, Copy)]
-pub enum Outcome64 {
-    Pattern(u64),
-    WrongLength,
-    WrongForm,
+// A kind of patterns that texts are read as, with the quick way to them, where there is one.
+pub trait Quick: Pattern {
+    // The nearest pattern to digits at a place, where the quick way finds it.
+    fn quickly(digits: u64, place: u32) -> Option<u64>
+        requires { place ≤ 30000 }
+        ensures { IfSome result (λ v. Finds Self.width digits place v) };
+
+    // The size of a pattern tells its width.
+    ghost told_by_size: { Self.width ≡ width_of (nat_eq Self.SIZE 64) };
 }
 
-// A product that bounds nothing.
-const NONE: Product = Product {
-    upper: 0,
-    exponent: 0,
-};
+// No number is sought by floats of 32 bits: too few powers of ten are exact there.
+impl Quick for u32 {
+    fn quickly(_digits: u64, _place: u32) -> Option<u64> {
+        None
+    }
+
+    ghost told_by_size = { refl };
+}
+
+impl Quick for u64 {
+    fn quickly(digits: u64, place: u32) -> Option<u64> {
+        fast::quickly(digits, place)
+    }
+
+    ghost told_by_size = { refl };
+}
 
 // The longest text that is read.
 const LONGEST: usize = 64;
@@ -47,240 +60,110 @@ const FIRST: u32 = 9758;
 
 const LAST: u32 = 10408;
 
-// Where the digits of a text begin.
-fn behind_sign(negative: bool) -> usize
-    ensures { Behind negative result }
+// The product of digits and their power of ten, where the table has it.
+fn scaled(digits: u64, place: u32) -> Option<Product>
+    ensures { Scales digits place result }
 {
-    if negative {
-        return 1;
+    if digits != 0 && FIRST <= place && place <= LAST {
+        Some(bounds::multiplied(digits, (place - FIRST) as usize))
+    } else {
+        None
     }
-    0
 }
 
-// The product of digits and their power of ten, where the table has it, and elsewhere one without an exponent.
-fn scaled(digits: u64, place: u32) -> Product
-    ensures { Scaled digits place result.upper result.exponent }
+// The pattern without a sign that a number reads as, by both ends of its product, and where those differ by exact comparison.
+fn compared<P: Pattern>(text: &[u8], x: Decimal, p: Product) -> u64
+    requires says { (0 < length text.now) × (length text.now ≤ 64) × Says text.now x }
+    requires scaled { Scaled x.digits x.place p.upper p.exponent }
+    ensures { Reads P.width text.now x result }
 {
-    if digits == 0 {
-        return NONE;
-    }
-    if place < FIRST {
-        return NONE;
-    }
-    if LAST < place {
-        return NONE;
-    }
-    bounds::multiplied(digits, (place - FIRST) as usize)
-}
-
-// The pattern without a sign that a number reads as at a width, by both ends of its product, and where those differ by exact comparison.
-fn compared(
-    text: &[u8],
-    negative: bool,
-    digits: u64,
-    dropped: u32,
-    more: bool,
-    place: u32,
-    p: Product,
-    t: Target,
-) -> u64
-    requires { (0 < length text.now) × (length text.now ≤ 64) × Says text.now (decimal negative digits dropped more place) ×
-        Scaled digits place p.upper p.exponent × Sized t }
-    ensures { (w : Width) → Spanned w → Targets t w → Reads w text.now (decimal negative digits dropped more place) result }
-{
-    if digits == 0 {
-        return 0;
-    }
-    if place < FIRST {
-        return 0;
-    }
-    if LAST < place {
-        return closest::infinity(t);
-    }
-    let ends = bounds::around(p.upper, more, p.exponent, t);
+    let ends = p.around::<P>(x.more);
     if ends.least == ends.most {
         return ends.least;
     }
-    let from = behind_sign(negative);
-    settle::settle(text, from, place - dropped, ends.least, ends.most, t)
-}
-
-// The pattern without a sign that a number reads as at 32 bits, by its product or by comparison.
-fn tabled32(
-    text: &[u8],
-    negative: bool,
-    digits: u64,
-    dropped: u32,
-    more: bool,
-    place: u32,
-    p: Product,
-) -> u64
-    requires { (0 < length text.now) × (length text.now ≤ 64) × Says text.now (decimal negative digits dropped more place) ×
-        Scaled digits place p.upper p.exponent }
-    ensures { Reads w32 text.now (decimal negative digits dropped more place) result }
-{
-    if 0 < p.exponent {
-        let v = bounds::at_once(p.upper, more, p.exponent, closest::binary32());
-        if 0 < v {
-            return v;
-        }
-    }
-    compared(
-        text,
-        negative,
-        digits,
-        dropped,
-        more,
-        place,
-        p,
-        closest::binary32(),
+    settle::settle::<P>(
+        &text[usize::from(x.negative)..],
+        x.place - x.dropped,
+        ends.least,
+        ends.most,
     )
 }
 
-// The pattern without a sign that a number reads as at 64 bits, by its product, the quick way where it serves, or by comparison.
-fn tabled64(
-    text: &[u8],
-    negative: bool,
-    digits: u64,
-    dropped: u32,
-    more: bool,
-    place: u32,
-    p: Product,
-) -> u64
-    requires { (0 < length text.now) × (length text.now ≤ 64) × Says text.now (decimal negative digits dropped more place) ×
-        Scaled digits place p.upper p.exponent }
-    ensures { Reads w64 text.now (decimal negative digits dropped more place) result }
+// The pattern without a sign that a number reads as: by its product at once, by the quick way where that serves, or by comparison.
+fn magnitude<P: Quick>(text: &[u8], x: Decimal, product: Option<Product>) -> u64
+    requires says { (0 < length text.now) × (length text.now ≤ 64) × Says text.now x }
+    requires scaled { Scales x.digits x.place product }
+    ensures { Reads P.width text.now x result }
 {
-    if 0 < p.exponent {
-        let v = bounds::at_once(p.upper, more, p.exponent, closest::binary64());
-        if 0 < v {
+    let Some(p) = product else {
+        return if x.digits == 0 || x.place < FIRST {
+            0
+        } else {
+            closest::infinity::<P>()
+        };
+    };
+    if let Some(v) = p.at_once::<P>(x.more) {
+        return v;
+    }
+    if !x.more {
+        if let Some(v) = P::quickly(x.digits, x.place) {
             return v;
         }
     }
-    if !more {
-        if let Some(v) = fast::quickly(digits, place) {
-            return v;
-        }
-    }
-    compared(
-        text,
-        negative,
-        digits,
-        dropped,
-        more,
-        place,
-        p,
-        closest::binary64(),
-    )
-}
-
-// The pattern without a sign that a number reads as.
-fn magnitude(
-    text: &[u8],
-    negative: bool,
-    digits: u64,
-    dropped: u32,
-    more: bool,
-    place: u32,
-    wide: bool,
-) -> u64
-    requires { (0 < length text.now) × (length text.now ≤ 64) × Says text.now (decimal negative digits dropped more place) }
-    ensures { Reads (width_of wide) text.now (decimal negative digits dropped more place) result }
-{
-    let p = scaled(digits, place);
-    if wide {
-        return tabled64(text, negative, digits, dropped, more, place, p);
-    }
-    tabled32(text, negative, digits, dropped, more, place, p)
-}
-
-// The pattern of the infinity.
-fn infinite(wide: bool) -> u64
-    ensures { result ≡ infinity (width_of wide) }
-{
-    if wide {
-        return 0x7ff0_0000_0000_0000;
-    }
-    0x7f80_0000
+    compared::<P>(text, x, p)
 }
 
 // The pattern that `NaN` is read as.
-fn quiet_nan(wide: bool) -> u64
-    ensures { result ≡ quiet_nan (width_of wide) }
+fn quiet_nan<P: Pattern>() -> u64
+    ensures { result ≡ quiet_nan P.width }
 {
-    if wide {
-        return 0x7ff8_0000_0000_0000;
-    }
-    0x7fc0_0000
-}
-
-// The bit of a sign.
-fn sign_bit(negative: bool, wide: bool) -> u64
-    ensures { result ≡ with_sign (width_of wide) negative 0 }
-{
-    if negative {
-        if wide {
-            return 0x8000_0000_0000_0000;
-        }
-        return 0x8000_0000;
-    }
-    0
+    closest::infinity::<P>() + (1 << (P::FRACTION - 1))
 }
 
 // A pattern with a sign. The sign is added as a number, since no branch on it can be foreseen.
-fn signed(negative: bool, v: u64, wide: bool) -> u64
-    requires { v ≤ infinity (width_of wide) }
-    ensures { result ≡ with_sign (width_of wide) negative v }
+fn signed<P: Pattern>(negative: bool, v: u64) -> u64
+    requires { v ≤ infinity P.width }
+    ensures { result ≡ with_sign P.width negative v }
 {
-    sign_bit(negative, wide) + v
+    (u64::from(negative) << (P::SIZE - 1)) + v
 }
 
-// Reads a text as binary64 if wide, else as binary32, a pattern of 32 bits. The scan is called here and nowhere else, and so becomes a
-// part of this function when it is compiled.
-fn read(text: &[u8], wide: bool) -> Outcome64
-    ensures { told64 result ≡ reading (width_of wide) text.now }
+// Reads a text at 64 bits if wide, else at 32. It has no type parameter for the sake of speed, which was tried and was a fifth less: the scan
+// and the product are called here alone, and so become a part of this function when it is compiled.
+fn read_bits(text: &[u8], wide: bool) -> Option<u64>
+    requires { (0 < length text.now) × (length text.now ≤ 64) }
+    ensures { told (λ v. v) (ok_or result WrongForm) ≡ reading (width_of wide) text.now }
 {
-    if text.len() == 0 {
-        return Outcome64::WrongLength;
-    }
-    if LONGEST < text.len() {
-        return Outcome64::WrongLength;
-    }
-    let s = scan::scan(text);
-    match s {
-        Scanned::Refused => Outcome64::WrongForm,
-        Scanned::NotANumber => Outcome64::Pattern(quiet_nan(wide)),
-        Scanned::Infinite(negative) => Outcome64::Pattern(signed(negative, infinite(wide), wide)),
-        Scanned::Number(x) => Outcome64::Pattern(signed(
-            x.negative,
-            magnitude(text, x.negative, x.digits, x.dropped, x.more, x.place, wide),
-            wide,
-        )),
-    }
-}
-
-// An outcome in 32 bits.
-fn narrowed(o: Outcome64) -> Outcome32
-    requires { (told64 o).pattern < 2 ^ 32 }
-    ensures { told32 result ≡ told64 o }
-{
-    match o {
-        Outcome64::Pattern(v) => Outcome32::Pattern(v as u32),
-        Outcome64::WrongLength => Outcome32::WrongLength,
-        Outcome64::WrongForm => Outcome32::WrongForm,
+    match scan::scan(text) {
+        Scanned::Refused => None,
+        Scanned::NotANumber => Some(if wide {
+            quiet_nan::<u64>()
+        } else {
+            quiet_nan::<u32>()
+        }),
+        Scanned::Infinite(negative) => Some(if wide {
+            signed::<u64>(negative, closest::infinity::<u64>())
+        } else {
+            signed::<u32>(negative, closest::infinity::<u32>())
+        }),
+        Scanned::Number(x) => {
+            let product = scaled(x.digits, x.place);
+            Some(if wide {
+                signed::<u64>(x.negative, magnitude::<u64>(text, x, product))
+            } else {
+                signed::<u32>(x.negative, magnitude::<u32>(text, x, product))
+            })
+        }
     }
 }
 
-// Reads a text as binary32.
-pub fn read32(text: &[u8]) -> Outcome32
-    ensures { told32 result ≡ reading w32 text.now }
+// Reads a text.
+pub fn read<P: Quick>(text: &[u8]) -> Result<P, ReadError>
+    ensures { told P.number result ≡ reading P.width text.now }
 {
-    narrowed(read(text, false))
-}
-
-// Reads a text as binary64.
-pub fn read64(text: &[u8]) -> Outcome64
-    ensures { told64 result ≡ reading w64 text.now }
-{
-    read(text, true)
+    if text.is_empty() || LONGEST < text.len() {
+        return Err(ReadError::WrongLength);
+    }
+    let bits = read_bits(text, P::SIZE == 64).ok_or(ReadError::WrongForm)?;
+    Ok(P::pattern(bits))
 }

@@ -1,14 +1,14 @@
--- The midpoint above a pattern, by the pattern's exponent field and its other bits, at a width and by a target's numbers. Assumes nothing.
-use mathlib.Core.Path.{◌≡◌, sym, ap}
+-- The midpoint above a pattern, by the pattern's exponent field and its other bits. Assumes nothing.
+use mathlib.Core.Path.{◌≡◌, ap}
 use Prim.Native.Nat.{ℕ, suc, ◌+◌, ◌-◌, ◌*◌, ◌/◌, ◌%◌, ◌^◌, ◌≤◌, ◌<◌}
 use native.Mathlib.Nat.{div-add-mod', div-lt_iff_lt-mul, mod-lt}
 use native.Mathlib.Omega.{arith}
 use lib.Dec.{lit≤}
 use lib.Pow.{pow_pos, pow_mono}
 use Rattle.rules.specs.Width.{Width}
+use Rattle.rules.specs.Reading.{infinity}
 use Rattle.theorems.proofs.Halfway.{midpoint, midpoint_at}
-use Rattle.closest.specs.declared.Target.{Target}
-use Rattle.closest.specs.Targets.{Sized}
+use Rattle.patterns.specs.Numbers.{Numbers}
 use Rattle.settle.specs.Settles.{Middle}
 
 module _ (w : Width) (p : ℕ) where
@@ -31,34 +31,29 @@ module _ (w : Width) (p : ℕ) where
       let field : b ≡ suc (b - 1) = omega arith in
       midpoint_at w p (b - 1) (2 ^ w.S + p % 2 ^ w.S) (omega (arith, parts, ap (λ (n : ℕ). n * 2 ^ w.S) field)) (omega (arith, rest)) (λ h. omega arith)
 
--- ---- the same by a target's numbers, with its hidden bit h
-module _ (t : Target) (sized : Sized t) (p h : ℕ) (is : h ≡ 2 ^ t.fraction) (inside : p < t.ones * 2 ^ t.fraction) where
+-- ---- the same with the hidden bit h, and with the bounds that the code needs
+module _ {w : Width} {size fraction bias ones pair : ℕ} (its : Numbers w size fraction bias ones pair) (p h : ℕ) (is : h ≡ 2 ^ w.S) (inside : p < infinity w) where
   pub hidden_some : 0 < h
-  hidden_some = rw is (pow_pos t.fraction)
+  hidden_some = rw is (pow_pos w.S)
 
   -- The exponent field is one of the width.
   pub field_few : p / h < 2047
-  field_few = rw is (omega (arith, sized.most, (div-lt_iff_lt-mul (pow_pos t.fraction)).1 inside))
+  unfolding infinity
+  field_few = rw is (omega (arith, its.most, (div-lt_iff_lt-mul (pow_pos w.S)).1 inside))
+
+  -- The pattern has a bit to spare.
+  pub pattern_few : p < 2 ^ 63
+  unfolding infinity
+  pattern_few = omega (arith, its.infinite)
 
   -- The significand and the hidden bit are far below 2^64.
   pub significand_few : h + p % h < 2 ^ 54
   significand_few =
-      let most : h ≤ 2 ^ 52 = rw is (pow_mono sized.few) in
+      let most : h ≤ 2 ^ 52 = rw is (pow_mono its.few) in
       omega (arith, mod-lt p hidden_some)
 
-  pub with_field_0 : p / h ≡ 0 → Middle t p (2 * p + 1) 0
-  with_field_0 none =
-      record {
-        is = λ w at. let s : p / 2 ^ w.S ≡ 0 = rw (← at.fraction, ← is) none in subnormal_midpoint w p s;
-        few = lit≤ tt;
-      }
+  pub with_field_0 : p / h ≡ 0 → Middle w p (2 * p + 1) 0
+  with_field_0 none = record { is = subnormal_midpoint w p (rw (← is) none); few = lit≤ tt }
 
-  pub with_field : 0 < p / h → Middle t p (2 * (h + p % h) + 1) (p / h - 1)
-  with_field some =
-      record {
-        is = λ w at.
-            let same : 2 ^ w.S ≡ h = rw (← at.fraction) (sym is) in
-            let s : 0 < p / 2 ^ w.S = rw same some in
-            rw same at (normal_midpoint w p s);
-        few = omega (arith, field_few);
-      }
+  pub with_field : 0 < p / h → Middle w p (2 * (h + p % h) + 1) (p / h - 1)
+  with_field some = record { is = rw is (normal_midpoint w p (rw (← is) some)); few = omega (arith, field_few) }

@@ -1,50 +1,41 @@
 -- What each turn of the search for a pattern knows. Assumes nothing.
-use mathlib.Core.Path.{◌≡◌, sym, ap₂}
-use Prim.Native.Nat.{ℕ, ◌+◌, ◌*◌, ◌%◌, ◌^◌, ◌≤◌, ◌<◌}
+use mathlib.Core.Path.{sym}
+use Prim.Native.Nat.{ℕ, ◌+◌, ◌*◌, ◌%◌, ◌^◌, ◌≤◌, ◌<◌, min}
 use native.Mathlib.Nat.{le_antisymm, le_trans}
 use native.Mathlib.Omega.{arith}
 use Rattle.laws.proofs.Powers.{ten_pos}
 use Rattle.rules.specs.Width.{Width}
 use Rattle.rules.specs.Reading.{infinity}
 use Rattle.theorems.proofs.Halfway.{below_midpoint, at_midpoint, above_midpoint, no_more}
+use Rattle.theorems.proofs.Readable.{Readable}
 use Rattle.limbs.specs.declared.Order.TheVariants.{Below, Equal, Above}
-use Rattle.closest.specs.declared.Target.{Target}
-use Rattle.closest.specs.Targets.{Targets}
 use Rattle.settle.specs.Settles.{Side, Reading, Settles}
 
-module _ (t : Target) (a tens least most : ℕ) where
+module _ (w : Width) (a tens least most : ℕ) where
   -- The patterns below p are ruled out.
   abbrev pub Reached : ℕ → Type 0
-  Reached p = Reading t a tens least most (λ n. p ≤ n)
-
-  top_is : (w : Width) → Targets t w → infinity w ≡ t.ones * 2 ^ t.fraction
-  unfolding infinity
-  top_is w is = ap₂ (λ (n s : ℕ). n * 2 ^ s) (sym is.ones) (sym is.fraction)
+  Reached p = Reading w a tens least most (λ n. p ≤ n)
 
   pub at_first : Reached least
-  at_first w r is up down at lo hi = lo
+  at_first up down at lo hi = lo
 
   module _ (p : ℕ) (reached : Reached p) where
-    pub at_last : most ≤ p → Settles t a tens least most p
-    at_last end w r is up down at lo hi = le_antisymm (reached w r is up down at lo hi) (le_trans hi end)
+    -- No pattern is behind the last one, nor behind the infinity.
+    pub at_last : min most (infinity w) ≤ p → Settles w a tens least most (min most (infinity w))
+    at_last end up down at lo hi =
+        le_antisymm (le_trans end (reached up down at lo hi)) (omega (arith, hi, no_more w (a * 10 ^ up) (10 ^ down)))
 
-    pub at_infinity : t.ones * 2 ^ t.fraction ≤ p → Settles t a tens least most p
-    at_infinity end w r is up down at lo hi =
-        le_antisymm (reached w r is up down at lo hi) (omega (arith, top_is w is, no_more w (a * 10 ^ up) (10 ^ down)))
-
-    module _ (inside : p < t.ones * 2 ^ t.fraction) where
+    module _ (r : Readable w) (inside : p < infinity w) where
       -- Below the midpoint above p it is p.
-      pub when_below : Side t a tens p Below → Settles t a tens least most p
-      when_below side w r is up down at lo hi =
-          le_antisymm (reached w r is up down at lo hi)
-          (below_midpoint w r (a * 10 ^ up) (10 ^ down) p (ten_pos down) (omega (arith, top_is w is)) (side w is up down at))
+      pub when_below : Side w a tens p Below → Settles w a tens least most p
+      when_below side up down at lo hi =
+          le_antisymm (reached up down at lo hi) (below_midpoint w r (a * 10 ^ up) (10 ^ down) p (ten_pos down) inside (side up down at))
 
       -- At the midpoint it is the even one.
-      pub when_equal : Side t a tens p Equal → Settles t a tens least most (p + p % 2)
-      when_equal side w r is up down at lo hi =
-          sym (at_midpoint w r (a * 10 ^ up) (10 ^ down) p (ten_pos down) (omega (arith, top_is w is)) (side w is up down at))
+      pub when_equal : Side w a tens p Equal → Settles w a tens least most (p + p % 2)
+      when_equal side up down at lo hi = sym (at_midpoint w r (a * 10 ^ up) (10 ^ down) p (ten_pos down) inside (side up down at))
 
       -- Above it p is ruled out too.
-      pub when_above : Side t a tens p Above → Reached (p + 1)
-      when_above side w r is up down at lo hi =
-          omega (arith, above_midpoint w r (a * 10 ^ up) (10 ^ down) p (ten_pos down) (omega (arith, top_is w is)) (side w is up down at))
+      pub when_above : Side w a tens p Above → Reached (p + 1)
+      when_above side up down at lo hi =
+          omega (arith, above_midpoint w r (a * 10 ^ up) (10 ^ down) p (ten_pos down) inside (side up down at))

@@ -3,28 +3,24 @@ use Rattle.std.specs.Prelude.{ℕ, ◌+◌, ◌*◌, ◌^◌, ◌≤◌, ◌≡�
 use Rattle.rules.specs.Width.{Width}
 use Rattle.rules.specs.Reading.{low, nearest}
 use Rattle.theorems.proofs.Halfway.{midpoint}
-use Rattle.theorems.proofs.Readable.{Readable}
 use Rattle.limbs.specs.declared.Order.{Order}
 use Rattle.limbs.specs.Stands.{Stands}
-use Rattle.closest.specs.declared.Target.{Target}
-use Rattle.closest.specs.Targets.{Targets}
 
 -- The midpoint above the pattern p, twice, is m * 2^k units.
-pub record Middle (t : Target) (p m k : ℕ) : Type 0 where
-  pub is : (w : Width) → Targets t w → midpoint w p ≡ m * 2 ^ k
+pub record Middle (w : Width) (p m k : ℕ) : Type 0 where
+  pub is : midpoint w p ≡ m * 2 ^ k
   pub few : k ≤ 2046
 
 -- How the number stands to the midpoint above p.
-abbrev pub Side : Target → ℕ → ℕ → ℕ → Order → Type 0
-Side t a tens p o =
-    (w : Width) → Targets t w → (up down : ℕ) → tens + down ≡ 10100 + up → Stands o (2 * (a * 10 ^ up * 2 ^ low w)) (midpoint w p * 10 ^ down)
+abbrev pub Side : Width → ℕ → ℕ → ℕ → Order → Type 0
+Side w a tens p o = (up down : ℕ) → tens + down ≡ 10100 + up → Stands o (2 * (a * 10 ^ up * 2 ^ low w)) (midpoint w p * 10 ^ down)
 
 -- What the number reads as has a property, if it is one of the patterns from `least` to `most`.
-abbrev pub Reading : Target → ℕ → ℕ → ℕ → ℕ → (ℕ → Type 0) → Type 0
-Reading t a tens least most P =
-    (w : Width) → Readable w → Targets t w → (up down : ℕ) → tens + down ≡ 10100 + up → least ≤ nearest w (a * 10 ^ up) (10 ^ down) →
-    nearest w (a * 10 ^ up) (10 ^ down) ≤ most → P (nearest w (a * 10 ^ up) (10 ^ down))
+abbrev pub Reading : Width → ℕ → ℕ → ℕ → ℕ → (ℕ → Type 0) → Type 0
+Reading w a tens least most P =
+    (up down : ℕ) → tens + down ≡ 10100 + up → least ≤ nearest w (a * 10 ^ up) (10 ^ down) → nearest w (a * 10 ^ up) (10 ^ down) ≤ most →
+    P (nearest w (a * 10 ^ up) (10 ^ down))
 
 -- It is r.
-abbrev pub Settles : Target → ℕ → ℕ → ℕ → ℕ → ℕ → Type 0
-Settles t a tens least most r = Reading t a tens least most (λ n. r ≡ n)
+abbrev pub Settles : Width → ℕ → ℕ → ℕ → ℕ → ℕ → Type 0
+Settles w a tens least most r = Reading w a tens least most (λ n. r ≡ n)

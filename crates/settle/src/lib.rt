@@ -1,13 +1,13 @@
 // Which of the patterns from one to another a decimal number reads as, by exact comparison with the midpoints between them.
 #![tactic(auto)]
 
-ghost use Rattle.std.specs.Prelude.{◌≡◌, ◌+◌, ◌*◌, ◌%◌, ◌^◌, ◌≤◌, ◌<◌, length, drop};
+ghost use Rattle.std.specs.Prelude.{◌≤◌, ◌<◌, length};
+ghost use Rattle.rules.specs.Reading.{infinity};
 ghost use Rattle.scan.specs.Mantissa.{mantissa};
-ghost use Rattle.closest.specs.Targets.{Sized};
 ghost use Rattle.settle.specs.Settles.{Middle, Side, Settles};
 
-use closest::Target;
 use limbs::Order;
+use patterns::Pattern;
 
 // The midpoint between a pattern and the next one, twice: m * 2^twos units.
 #[derive(Clone, Copy)]
@@ -17,11 +17,11 @@ pub struct Midpoint {
 }
 
 // The midpoint above a pattern.
-fn midpoint_above(p: u64, t: Target) -> Midpoint
-    requires { Sized t × (p < t.ones * 2 ^ t.fraction) }
-    ensures { Middle t p result.m result.twos }
+fn midpoint_above<P: Pattern>(p: u64) -> Midpoint
+    requires { p < infinity P.width }
+    ensures { Middle P.width p result.m result.twos }
 {
-    let hidden = closest::hidden_bit(t);
+    let hidden = closest::hidden_bit::<P>();
     let field = p / hidden;
     if field == 0 {
         return Midpoint {
@@ -35,50 +35,35 @@ fn midpoint_above(p: u64, t: Target) -> Midpoint
     }
 }
 
-// How the number whose digits stand in a text stands to the midpoint above a pattern.
-fn side(text: &[u8], from: usize, tens: u32, p: u64, t: Target) -> Order
-    requires from_in_bounds { (from ≤ length text.now) × (length text.now ≤ 64) × (9694 ≤ tens) × (tens ≤ 10408) }
-    requires sized { Sized t × (p < t.ones * 2 ^ t.fraction) }
-    ensures { Side t (mantissa 0 (drop from text.now)) tens p result }
+// How the number with these digits stands to the midpoint above a pattern.
+fn side<P: Pattern>(digits: &[u8], tens: u32, p: u64) -> Order
+    requires room { (length digits.now ≤ 64) × (9694 ≤ tens) × (tens ≤ 10408) }
+    requires finite { p < infinity P.width }
+    ensures { Side P.width (mantissa 0 digits.now) tens p result }
 {
-    let h = midpoint_above(p, t);
-    let unit = 1201 - t.base;
+    let h = midpoint_above::<P>(p);
+    let unit = P::BIAS + P::FRACTION;
     if tens < 10100 {
         let n = 10100 - tens;
-        return limbs::against(text, from, 0, unit, h.m, n, n + h.twos);
+        return limbs::against(digits, 0, 0, unit, h.m, n, n + h.twos);
     }
     let n = tens - 10100;
-    limbs::against(text, from, n, n + unit, h.m, 0, h.twos)
+    limbs::against(digits, 0, n, n + unit, h.m, 0, h.twos)
 }
 
-// The even one of a pattern and the next.
-fn even_of(p: u64) -> u64
-    requires { p < 2 ^ 63 }
-    ensures { result ≡ p + p % 2 }
+// The pattern, of those from `least` to `most`, that the number with these digits reads as. Of a pattern and the next one the even one is
+// taken at the midpoint.
+pub fn settle<P: Pattern>(digits: &[u8], tens: u32, least: u64, most: u64) -> u64
+    requires { (length digits.now ≤ 64) × (9694 ≤ tens) × (tens ≤ 10408) }
+    ensures { Settles P.width (mantissa 0 digits.now) tens least most result }
 {
-    if p % 2 == 0 {
-        return p;
-    }
-    p + 1
-}
-
-// The pattern, of those from `least` to `most`, that the number reads as.
-pub fn settle(text: &[u8], from: usize, tens: u32, least: u64, most: u64, t: Target) -> u64
-    requires { (from ≤ length text.now) × (length text.now ≤ 64) × (9694 ≤ tens) × (tens ≤ 10408) × Sized t }
-    ensures { Settles t (mantissa 0 (drop from text.now)) tens least most result }
-{
-    let infinity = closest::infinity(t);
-    let mut p = least;
-    while p < most {
-        if infinity <= p {
-            return p;
-        }
-        let o = side(text, from, tens, p, t);
-        match o {
+    let last = most.min(closest::infinity::<P>());
+    for p in least..last {
+        match side::<P>(digits, tens, p) {
             Order::Below => return p,
-            Order::Equal => return even_of(p),
-            Order::Above => p += 1,
+            Order::Equal => return p + p % 2,
+            Order::Above => {}
         }
     }
-    p
+    last
 }

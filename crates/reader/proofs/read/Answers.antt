@@ -1,41 +1,34 @@
--- `reader::read` meets its contract at either width: the text's length, and each case of its scan. Assumes nothing.
-use mathlib.Core.Path.{sym, subst}
+-- `reader::read` meets its contract: the text's length, and a pattern of a type whose size tells its width. Assumes nothing.
+use mathlib.Core.Bool.{true}
+use mathlib.Core.Logic.{⊎_elim}
+use mathlib.Core.Path.{◌≡◌, sym, ap, subst, ◌∙◌}
+use Prim.Native.Nat.{ℕ, ◌^◌, ◌<◌}
 use native.Mathlib.Omega.{arith}
+use lib.ListN.{length}
+use Rattle.std.specs.Prelude.{nat_eq, ◌==◌, Ok}
+use Rattle.std.proofs.lemmas.Bool.Decides.{nat_tests}
+use Rattle.rules.specs.Width.{Width}
+use Rattle.rules.specs.Reader.{Reading, reading}
 use Rattle.theorems.proofs.ReadLength.{empty_refused, long_refused}
-use Rattle.scan.specs.Scans.{Scans}
+use Rattle.reader.specs.Told.{told}
 use Rattle.reader.specs.Widths.{width_of}
-use Rattle.reader.proofs.Answers.{nothing, a_nan, an_infinity, a_number, no_further}
+use Rattle.reader.proofs.Answers.{in-width}
 use Rattle.reader.proofs.read.Goals as goal
 
-pub returns-then-text-eq0 : goal.returns-then-text-eq0
-returns-then-text-eq0 c = sym (empty_refused (width_of c.args.wide) c.args.text.now c.if-text-eq0.true)
+none : (n : ℕ) → true ≡ (n == 0) → n ≡ 0
+none n h = grind (arith, nat_tests)
 
-pub returns-then-text-gt-LONGEST : goal.returns-then-text-gt-LONGEST
-returns-then-text-gt-LONGEST c =
-    sym (long_refused (width_of c.args.wide) c.args.text.now (omega (arith, c.if-text-gt-LONGEST.true)))
+pub returns-then-is_empty : goal.returns-then-is_empty
+returns-then-is_empty g c =
+    let t = c.args.text.now in
+    let w = g.P.Pattern.width in
+    ⊎_elim (λ h. sym (empty_refused w t (none (length t) (sym h ∙ c.is_empty.ensures)))) (λ h. sym (long_refused w t h.1)) c.then-is_empty.either
 
-pub signed-requires-in-Number : goal.signed-requires-in-Number
-signed-requires-in-Number c =
-    let says = subst (Scans c.args.text.now) c.in-Number.is c.scan-s.ensures in
-    no_further (width_of c.args.wide) c.args.text.now _ c.magnitude.result says c.magnitude.ensures
-
-pub returns-in-Refused : goal.returns-in-Refused
-returns-in-Refused c =
-    nothing (width_of c.args.wide) c.args.text.now (omega (arith, c.if-text-eq0.false)) (omega (arith, c.if-text-gt-LONGEST.false))
-    (subst (Scans c.args.text.now) c.in-Refused.is c.scan-s.ensures)
-
-pub returns-in-NotANumber : goal.returns-in-NotANumber
-returns-in-NotANumber c =
-    a_nan (width_of c.args.wide) c.args.text.now (omega (arith, c.if-text-eq0.false)) (omega (arith, c.if-text-gt-LONGEST.false))
-    (subst (Scans c.args.text.now) c.in-NotANumber.is c.scan-s.ensures) _ c.quiet_nan.ensures
-
-pub returns-in-Infinite : goal.returns-in-Infinite
-returns-in-Infinite c =
-    an_infinity (width_of c.args.wide) c.args.text.now (omega (arith, c.if-text-eq0.false)) (omega (arith, c.if-text-gt-LONGEST.false)) _
-    (subst (Scans c.args.text.now) c.in-Infinite.is c.scan-s.ensures) _ _ c.infinite.ensures c.signed.ensures
-
-pub returns-in-Number : goal.returns-in-Number
-returns-in-Number c =
-    a_number (width_of c.args.wide) c.args.text.now (omega (arith, c.if-text-eq0.false)) (omega (arith, c.if-text-gt-LONGEST.false)) _
-    (subst (Scans c.args.text.now) c.in-Number.is c.scan-s.ensures) _ c.magnitude.result
-    c.magnitude.ensures c.signed-in-Number.ensures
+pub pattern-requires : goal.pattern-requires
+pattern-requires g c =
+    let w = g.P.Pattern.width in
+    let t = c.args.text.now in
+    let same = ap (λ (n : ℕ). width_of (nat_eq n 64)) c.SIZE.ensures ∙ sym g.met.P.Quick.told_by_size in
+    let is : told (λ v. v) (Ok c.in_ok-bits.bits) ≡ reading w t =
+    ap (told (λ v. v)) c.in_ok-bits.ensures.value ∙ c.read_bits.ensures ∙ ap (λ (v : Width). reading v t) same in
+    subst (λ (a : Reading). a.pattern < 2 ^ w.bits) (sym is) (in-width w g.met.P.Pattern.numbers t)

@@ -1,33 +1,23 @@
--- `reader::signed` meets its contract at either width. Assumes nothing.
-use mathlib.Core.Bool.{Bool, true, false}
-use mathlib.Core.Path.{◌≡◌}
-use Prim.Native.Nat.{ℕ, ◌+◌, ◌^◌, ◌≤◌, ◌<◌}
+-- `reader::signed` meets its contract: the sign is a bit to add. Assumes nothing.
+use mathlib.Core.Path.{◌≡◌, ap, ◌∙◌}
+use Prim.Native.Nat.{ℕ, ◌+◌, ◌-◌, ◌*◌, ◌%◌, ◌^◌}
 use native.Mathlib.Omega.{arith}
-use Rattle.rules.specs.Width.{Width, w32, w64}
-use Rattle.rules.specs.Pattern.{all_ones}
-use Rattle.rules.specs.Reading.{infinity, with_sign}
-use Rattle.reader.specs.Widths.{width_of}
+use Rattle.rules.specs.Reading.{with_sign}
+use Rattle.reader.proofs.Answers.{by_addition, sign_fits, word_fits}
+use Rattle.reader.proofs.signed.Given.{Over}
 use Rattle.reader.proofs.signed.Goals as goal
+use Rattle.reader.proofs.signed.Goals.{After-SIZE}
 
--- A sign is a number to add.
-by-addition : (w : Width) (negative : Bool) (v : ℕ) → with_sign w negative 0 + v ≡ with_sign w negative v
-unfolding with_sign
-by-addition w true v = omega arith
-by-addition w false v = omega arith
-
--- The sum has 64 bits.
-in-64 : (negative wide : Bool) (v : ℕ) → v ≤ infinity (width_of wide) → with_sign (width_of wide) negative 0 + v < 2 ^ 64
-unfolding with_sign w32 w64 infinity all_ones
-in-64 true true v most = omega arith
-in-64 true false v most = omega arith
-in-64 false true v most = omega arith
-in-64 false false v most = omega arith
+-- The sum is the pattern with its sign.
+sum_is : (g : Over) (c : After-SIZE g) → c.from.result * 2 ^ (c.SIZE.result - 1) % 2 ^ 64 + c.args.v ≡ with_sign g.P.Pattern.width c.args.negative c.args.v
+sum_is g c =
+    ap (λ (n : ℕ). n * 2 ^ (c.SIZE.result - 1) % 2 ^ 64 + c.args.v) c.from.ensures
+    ∙ by_addition g.P.Pattern.width g.met.P.Pattern.numbers c.args.negative c.SIZE.result c.args.v (c.SIZE.ensures ∙ g.met.P.Pattern.numbers.size_is)
 
 pub overflow_add-result : goal.overflow_add-result
-overflow_add-result c =
-    let few = in-64 c.args.negative c.args.wide c.args.v c.requires in
-    rw c.sign_bit.ensures (omega (arith, few))
+overflow_add-result g c =
+    let its = g.met.P.Pattern.numbers in
+    omega (arith, sum_is g c, sign_fits g.P.Pattern.width its c.args.negative c.args.v c.requires, word_fits g.P.Pattern.width its)
 
 pub returns : goal.returns
-returns c =
-    rw c.sign_bit.ensures (by-addition (width_of c.args.wide) c.args.negative c.args.v)
+returns g c = sum_is g c

@@ -1,0 +1,12 @@
+-- `bounds::Product::at_most` meets its contract where the sum has no room: its half has. Assumes nothing.
+use mathlib.Core.Path.{sym}
+use Prim.Native.Nat.{◌+◌}
+use native.Mathlib.Nat.{le_of_eq, le_trans}
+use native.Mathlib.Omega.{arith}
+use Rattle.bounds.proofs.Products.{halved}
+use Rattle.bounds.proofs.Product.at_most.Goals as goal
+
+pub returns-in-None : goal.returns-in-None
+returns-in-None g c =
+    le_trans (halved g.P.Pattern.width g.met.P.Pattern.spanned.readable (c.args.self.upper + c.args.far) _ c.args.self.exponent (omega arith))
+    (le_of_eq (sym c.pack-in-None.ensures))
