@@ -14,10 +14,10 @@ sum_is g c =
     ap (λ (n : ℕ). n + 1 * 2 ^ (c.FRACTION.result - 1) % 2 ^ 64) c.infinity.ensures
     ∙ nan_is g.P.Pattern.width its c.FRACTION.result (c.FRACTION.ensures ∙ its.fraction_is)
 
+pub returns : goal.returns
+returns g c = sum_is g c
+
 pub overflow_add-result : goal.overflow_add-result
 overflow_add-result g c =
     let its = g.met.P.Pattern.numbers in
     omega (arith, sum_is g c, nan_fits g.P.Pattern.width its, word_fits g.P.Pattern.width its)
-
-pub returns : goal.returns
-returns g c = sum_is g c

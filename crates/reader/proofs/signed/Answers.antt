@@ -14,10 +14,10 @@ sum_is g c =
     ap (λ (n : ℕ). n * 2 ^ (c.SIZE.result - 1) % 2 ^ 64 + c.args.v) c.from.ensures
     ∙ by_addition g.P.Pattern.width g.met.P.Pattern.numbers c.args.negative c.SIZE.result c.args.v (c.SIZE.ensures ∙ g.met.P.Pattern.numbers.size_is)
 
+pub returns : goal.returns
+returns g c = sum_is g c
+
 pub overflow_add-result : goal.overflow_add-result
 overflow_add-result g c =
     let its = g.met.P.Pattern.numbers in
     omega (arith, sum_is g c, sign_fits g.P.Pattern.width its c.args.negative c.args.v c.requires, word_fits g.P.Pattern.width its)
-
-pub returns : goal.returns
-returns g c = sum_is g c
