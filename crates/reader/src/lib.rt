@@ -74,16 +74,16 @@ fn scaled(digits: u64, place: u32) -> Option<Product>
 // The pattern without a sign that a number reads as, by both ends of its product, and where those differ by exact comparison.
 fn compared<P: Pattern>(text: &[u8], x: Decimal, p: Product) -> u64
     requires says { (0 < length text.now) × (length text.now ≤ 64) × Says text.now x }
-    requires scaled { Scaled x.digits x.place p.upper p.exponent }
+    requires scaled { Scaled x.held.digits x.place p.upper p.exponent }
     ensures { Reads P.width text.now x result }
 {
-    let ends = p.around::<P>(x.more);
+    let ends = p.around::<P>(x.held.more);
     if ends.least == ends.most {
         return ends.least;
     }
     settle::settle::<P>(
         &text[usize::from(x.negative)..],
-        x.place - x.dropped,
+        x.place - x.held.dropped,
         ends.least,
         ends.most,
     )
@@ -92,21 +92,21 @@ fn compared<P: Pattern>(text: &[u8], x: Decimal, p: Product) -> u64
 // The pattern without a sign that a number reads as: by its product at once, by the quick way where that serves, or by comparison.
 fn magnitude<P: Quick>(text: &[u8], x: Decimal, product: Option<Product>) -> u64
     requires says { (0 < length text.now) × (length text.now ≤ 64) × Says text.now x }
-    requires scaled { Scales x.digits x.place product }
+    requires scaled { Scales x.held.digits x.place product }
     ensures { Reads P.width text.now x result }
 {
     let Some(p) = product else {
-        return if x.digits == 0 || x.place < FIRST {
+        return if x.held.digits == 0 || x.place < FIRST {
             0
         } else {
             closest::infinity::<P>()
         };
     };
-    if let Some(v) = p.at_once::<P>(x.more) {
+    if let Some(v) = p.at_once::<P>(x.held.more) {
         return v;
     }
-    if !x.more {
-        if let Some(v) = P::quickly(x.digits, x.place) {
+    if !x.held.more {
+        if let Some(v) = P::quickly(x.held.digits, x.place) {
             return v;
         }
     }
@@ -134,8 +134,7 @@ fn read_bits(text: &[u8], wide: bool) -> Option<u64>
     requires { (0 < length text.now) × (length text.now ≤ 64) }
     ensures { told (λ v. v) (ok_or result WrongForm) ≡ reading (width_of wide) text.now }
 {
-    match scan::scan(text) {
-        Scanned::Refused => None,
+    match scan::scan(text)? {
         Scanned::NotANumber => Some(if wide {
             quiet_nan::<u64>()
         } else {
@@ -147,7 +146,7 @@ fn read_bits(text: &[u8], wide: bool) -> Option<u64>
             signed::<u32>(negative, closest::infinity::<u32>())
         }),
         Scanned::Number(x) => {
-            let product = scaled(x.digits, x.place);
+            let product = scaled(x.held.digits, x.place);
             Some(if wide {
                 signed::<u64>(x.negative, magnitude::<u64>(text, x, product))
             } else {

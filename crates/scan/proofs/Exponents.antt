@@ -1,10 +1,9 @@
 -- The digits of an exponent, one by one. Assumes nothing.
 use Rattle.std.proofs.Common.{◌≡◌, ℕ, suc, ◌+◌, ◌-◌, ◌*◌, ◌^◌, ◌<◌, ◌≤◌, Bool, true, false, ◌&&◌, ltb, List, [], ◌∷◌, length, get_or, drop, refl, ◌∙◌, lt_of_lt_of_le, zero-lt-suc, arith, ltb→lt, drop_of_length-le, lt-ltb}
-use native.Mathlib.Nat.{pow-le-pow_right, pow-succ', sub_self}
+use native.Mathlib.Nat.{pow-le-pow_right, pow-succ'}
 use Rattle.laws.proofs.Branches.{either, and_right}
 use Rattle.rules.specs.Bytes.{byte0}
 use Rattle.rules.specs.Reading.{Unsigned, no_number, is_digit, extended, powered, exponent_more, exponent_first}
-use Rattle.scan.specs.Raises.{Counts}
 use Rattle.scan.proofs.Passing.{cons, digit_range}
 
 module _ (a n : ℕ) (below : Bool) where
@@ -42,48 +41,32 @@ module _ (a n : ℕ) (below : Bool) where
   too_few [] none = refl
   too_few (b ∷ bs) none = absurd (omega arith)
 
-pub none_counted : {t : List ℕ} → ((a n : ℕ) (below : Bool) → exponent_first a n below t ≡ no_number) → Counts t 10000
-none_counted none = record { few = omega arith; fails = λ e. none; holds = λ less. absurd (omega arith) }
+-- The first i digits of an exponent, the text t, make e.
+pub record Counted (t : List ℕ) (i e : ℕ) : Type 0 where
+  pub small : e < 10 ^ i
+  pub is : (a n : ℕ) (below : Bool) → exponent_first a n below t ≡ exponent_more a n below e i (drop i t)
 
--- From one place of the text t to another, the digits of its exponent make e.
-pub record Counted (t : List ℕ) (from i e : ℕ) : Type 0 where
-  pub onward : from ≤ i
-  pub inside : i ≤ length t
-  pub small : e < 10 ^ (i - from)
-  pub is : (a n : ℕ) (below : Bool) → exponent_first a n below (drop from t) ≡ exponent_more a n below e (i - from) (drop i t)
+pub begun : (t : List ℕ) → 0 < length t → Counted t 0 0
+begun [] some = absurd (omega arith)
+begun (b ∷ bs) some = record { small = zero-lt-suc 0; is = λ a n below. first a n below b bs }
 
-pub begun : (t : List ℕ) (from : ℕ) → from < length t → Counted t from from 0
-begun t from some =
-    record {
-      onward = omega arith;
-      inside = omega arith;
-      small = rw (sub_self from) (zero-lt-suc 0);
-      is = λ a n below. rw (sub_self from, cons t from some) (first a n below _ _);
-    }
+module _ {t : List ℕ} {i e : ℕ} (so_far : Counted t i e) where
+  pub below_limit : i ≤ 4 → e < 10000
+  below_limit four = lt_of_lt_of_le so_far.small (pow-le-pow_right {n = 10} (zero-lt-suc 9) four)
 
-module _ {t : List ℕ} {from i e : ℕ} (so_far : Counted t from i e) where
-  pub below_limit : i ≤ from + 4 → e < 10000
-  below_limit few =
-      let four : i - from ≤ 4 = omega arith in
-      lt_of_lt_of_le so_far.small (pow-le-pow_right {n = 10} (zero-lt-suc 9) four)
-
-  pub continued : (v : ℕ) → i < length t → i < from + 4 → is_digit (get_or t i 0) ≡ true → v ≡ get_or t i 0 - byte0 → Counted t from (i + 1) (e * 10 + v)
+  pub continued : (v : ℕ) → i < length t → i < 4 → is_digit (get_or t i 0) ≡ true → v ≡ get_or t i 0 - byte0 → Counted t (i + 1) (e * 10 + v)
   unfolding extended
   continued v in-text few digit value =
-      let onward = so_far.onward in
-      let later : i + 1 - from ≡ suc (i - from) = omega arith in
+      let later : i + 1 ≡ suc i = omega arith in
       let range = digit_range _ digit in
       record {
-        onward = omega arith;
-        inside = omega arith;
-        small = rw (later, pow-succ' 10 (i - from)) (omega (arith, so_far.small));
-        is = λ a n below.
-            so_far.is a n below ∙ rw (cons t i in-text, later, value) (another a n below e (i - from) _ _ digit (omega arith));
+        small = rw (later, pow-succ' 10 i) (omega (arith, so_far.small));
+        is = λ a n below. so_far.is a n below ∙ rw (cons t i in-text, later, value) (another a n below e i _ _ digit few);
       }
 
-  pub broken : i < length t → is_digit (get_or t i 0) ≡ false → (a n : ℕ) (below : Bool) → exponent_first a n below (drop from t) ≡ no_number
-  broken in-text none a n below = so_far.is a n below ∙ rw (cons t i in-text) (other a n below e (i - from) _ _ none)
+  pub broken : i < length t → is_digit (get_or t i 0) ≡ false → (a n : ℕ) (below : Bool) → exponent_first a n below t ≡ no_number
+  broken in-text none a n below = so_far.is a n below ∙ rw (cons t i in-text) (other a n below e i _ _ none)
 
-  pub complete : length t ≤ i → (a n : ℕ) (below : Bool) → exponent_first a n below (drop from t) ≡ powered a n below e
+  pub complete : length t ≤ i → (a n : ℕ) (below : Bool) → exponent_first a n below t ≡ powered a n below e
   unfolding exponent_more
   complete end a n below = so_far.is a n below ∙ rw (drop_of_length-le t end)

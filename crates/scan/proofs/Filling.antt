@@ -1,20 +1,27 @@
 -- The last bytes of a text as one word, with the digit 0 in place of those before. Assumes nothing.
-use Rattle.std.proofs.Common.{◌≡◌, ℕ, zero, suc, ◌+◌, ◌-◌, ◌*◌, ◌/◌, ◌%◌, ◌^◌, ◌<◌, ◌≤◌, List, [], ◌∷◌, ◌++◌, map, length, take, drop, replicate, sym, refl, ap, ◌∙◌, subst, lt_of_le_of_lt, mod-eq_of_lt, suc-mul, suc-add, zero-add, div-mul-le_self, arith, lit<, length-append, length-drop, take_all, drop-drop, pow-add}
+use Rattle.std.proofs.Common.{◌≡◌, ℕ, zero, suc, ◌+◌, ◌-◌, ◌*◌, ◌/◌, ◌%◌, ◌^◌, ◌<◌, ◌≤◌, List, [], ◌∷◌, ◌++◌, map, length, drop, replicate, sym, refl, ap, ◌∙◌, subst, lt_of_le_of_lt, mod-eq_of_lt, suc-mul, suc-add, zero-add, div-mul-le_self, arith, lit<, length-append, length-drop, drop-drop, pow-add}
 use lib.Bits.{bit_xor}
 use lib.ListN.{length-replicate}
+use Rattle.std.specs.Int.{w64, from_le_bytes}
 use Rattle.laws.specs.Lanes.{Below, word}
 use Rattle.laws.proofs.Lanes.{beyond}
 use Rattle.rules.specs.Bytes.{byte0}
 use Rattle.rules.specs.Reading.{extended}
 use Rattle.scan.specs.Passes.{Passes, more, Makes}
 use Rattle.scan.specs.Spells.{above, Spells}
-use Rattle.scan.proofs.Spelling.{aboves, aboves_below}
-use Rattle.scan.proofs.Loading.{drop-below, take_below, makes}
+use Rattle.scan.proofs.Spelling.{aboves, aboves_below, read_word}
+use Rattle.scan.proofs.Loading.{makes}
 
 copies_below : (n a k : ℕ) → a < n → Below n (replicate k a)
 copies_below n a zero small i = omega arith
 copies_below n a (suc k) small zero = small
 copies_below n a (suc k) small (suc i) = copies_below n a k small i
+
+-- A part of a list is below what the list is below.
+drop-below : (n at : ℕ) (t : List ℕ) → Below n t → Below n (drop at t)
+drop-below n zero t h = h
+drop-below n (suc at) [] h = h
+drop-below n (suc at) (x ∷ xs) h = drop-below n at xs (λ i. h (suc i))
 
 append-below : (n : ℕ) (xs ys : List ℕ) → Below n xs → Below n ys → Below n (xs ++ ys)
 append-below n [] ys h k i = k i
@@ -54,29 +61,23 @@ behind_zeros : (k : ℕ) {n r : ℕ} {t : List ℕ} → Passes 0 (replicate k by
 behind_zeros zero {n} p = rw (zero-add n) at p
 behind_zeros (suc k) {n} p = behind_zeros k (behind_zero (rw (suc-add k n) at p))
 
--- The last n bytes of a text, at most eight, that spell a number.
-pub last : (t : List ℕ) (n : ℕ) {v r : ℕ} → 8 ≤ length t → n ≤ 8 → Below 256 t → v ≡ word 8 (take 8 (drop (length t - 8) t)) →
+-- The last n bytes of a text, at most eight, where they spell a number.
+pub last : (t : List ℕ) (n : ℕ) {v r : ℕ} (part : List ℕ) → 8 ≤ length t → n ≤ 8 → part ≡ drop (length t - 8) t → Below 256 t → v ≡ from_le_bytes w64 part →
     let u = bit_xor v 0x3030_3030_3030_3030 in u < 2 ^ 64 → Spells (u / 2 ^ (64 - 8 * n) * 2 ^ (64 - 8 * n) % 2 ^ 64) r →
-    (r ≤ 100000000) × (r < 100000000 → Makes n t (length t - n) r)
-last t n {v} {r} long few bytes e size spells =
-    let end = drop (length t - 8) t in
-    let part = take 8 end in
+    (r < 100000000) × Makes n (drop (length t - n) t) r []
+last t n {v} {r} part long few is bytes e size spells =
+    let below : Below 256 part = rw is (drop-below 256 (length t - 8) t bytes) in
     let k = 8 - n in
-    let count : length end ≡ 8 = omega (arith, length-drop (length t - 8) t) in
-    let whole : part ≡ end = take_all 8 end (omega arith) in
-    let counted : length part ≡ 8 = ap length whole ∙ count in
-    let below = take_below 256 8 end (lit< tt) (drop-below 256 (length t - 8) t bytes) in
+    let counted : length part ≡ 8 = omega (arith, ap length is, length-drop (length t - 8) t) in
     let copies = replicate k byte0 in
     let text = copies ++ drop k part in
     let text-count : length text ≡ 8 =
     omega (arith, length-append copies (drop k part), length-replicate k byte0, length-drop k part) in
     let text-below : Below 256 text = append-below 256 copies (drop k part) (copies_below 256 byte0 k (lit< tt)) (drop-below 256 k part below) in
     let flip : word 8 (map above part) ≡ bit_xor v 0x3030_3030_3030_3030 =
-    sym (aboves part counted below) ∙ ap (λ (m : ℕ). bit_xor m 0x3030_3030_3030_3030) (sym e) in
+    sym (aboves part counted below) ∙ ap (λ (m : ℕ). bit_xor m 0x3030_3030_3030_3030) (sym (e ∙ read_word part counted)) in
     let all = spells.spells text text-count text-below (fills n part (bit_xor v 0x3030_3030_3030_3030) few size below flip) in
     let place : length t - 8 + k ≡ length t - n = omega arith in
     let sum : k + n ≡ 8 = omega arith in
-    let at : drop k part ≡ take n (drop (length t - n) t) =
-    ap (drop k) whole ∙ drop-drop k (length t - 8) t ∙ ap (λ (m : ℕ). drop m t) place
-    ∙ sym (take_all n (drop (length t - n) t) (omega (arith, length-drop (length t - n) t))) in
-    (all.0, λ less. makes (subst (λ (u : List ℕ). Passes 0 u n r []) at (behind_zeros k (rw sum (all.1 less)))))
+    let at : drop k part ≡ drop (length t - n) t = ap (drop k) is ∙ drop-drop k (length t - 8) t ∙ ap (λ (m : ℕ). drop m t) place in
+    (all.0, makes (subst (λ (u : List ℕ). Passes 0 u n r []) at (behind_zeros k (rw sum all.1))))

@@ -1,6 +1,7 @@
 -- What is kept of a number that grows by digits. Assumes nothing.
-use Rattle.std.proofs.Common.{◌≡◌, ℕ, zero, suc, ◌+◌, ◌-◌, ◌*◌, ◌^◌, ◌<◌, ◌≤◌, Bool, true, false, ◌⊎◌, sym, refl, ap, ◌∙◌, ⊎_elim, true≢false, mul-le-mul_right, mul-le-mul_left, add-one, arith, lit<, pow-add}
+use Rattle.std.proofs.Common.{◌≡◌, ℕ, zero, suc, ◌+◌, ◌-◌, ◌*◌, ◌^◌, ◌<◌, ◌≤◌, Bool, true, false, not, ◌||◌, eqb, ◌⊎◌, inl, inr, sym, refl, ap, ◌∙◌, ⊎_elim, true≢false, mul-le-mul_right, mul-le-mul_left, add-one, arith, lit<, pow-add}
 use native.Mathlib.Nat.{pow-succ', pow-le-pow_right}
+use Rattle.std.proofs.lemmas.Bool.Decides.{nat_tests}
 use Rattle.laws.proofs.Powers.{ten_pos}
 use Rattle.scan.specs.Kept.{Kept}
 
@@ -63,6 +64,15 @@ module _ {a w d : ℕ} {more : Bool} (k : Kept a w d more) where
         small = k.small;
         full = λ g. full;
       }
+
+-- Whether a digit is left off that is not 0, where one was before or this is one.
+pub or_false : (m : Bool) (x : ℕ) → (m || not (eqb x 0)) ≡ false → (m ≡ false) × (x ≡ 0)
+or_false true x e = absurd (true≢false e)
+or_false false x e = (refl, grind (arith, nat_tests))
+
+pub or_true : (m : Bool) (x : ℕ) → (m || not (eqb x 0)) ≡ true → (m ≡ true) ⊎ (0 < x)
+or_true true x e = inl refl
+or_true false x e = inr (grind (arith, nat_tests))
 
 -- n digits more fit behind a number that is n digits short of eighteen.
 pub room : (w n v : ℕ) → n ≤ 18 → w < 10 ^ (18 - n) → v < 10 ^ 8 → (w < 10 ^ 18) × (w * 10 ^ n + v < 10 ^ 19)

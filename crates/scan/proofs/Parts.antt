@@ -1,12 +1,11 @@
 -- The digits of a text before its point, and those behind it. Assumes nothing.
-use Rattle.std.proofs.Common.{◌≡◌, ℕ, ◌+◌, ◌<◌, true, false, List, [], ◌∷◌, drop, sym, refl, ◌∙◌, true≢false, zero-add, arith}
+use Rattle.std.proofs.Common.{◌≡◌, ℕ, ◌<◌, true, false, List, [], ◌∷◌, sym, refl, ◌∙◌, true≢false, zero-add, arith}
 use Rattle.rules.specs.Bytes.{point}
 use Rattle.rules.specs.Reading.{no_number, is_digit, unsigned, whole_more, decimals_first, decimals_more}
 use Rattle.scan.specs.Heads.{starts, begins}
 use Rattle.scan.specs.Mantissa.{mantissa}
 use Rattle.scan.specs.Passes.{Passes, none, more}
-use Rattle.scan.proofs.Passing.{cons, along}
-use Rattle.scan.proofs.Signing.{begins_inside, begins_is}
+use Rattle.scan.proofs.Passing.{along}
 
 -- A text that begins with digits begins with a digit.
 first_passed : {a n c : ℕ} {t u : List ℕ} → Passes a t n c u → 0 < n → starts t ≡ true
@@ -60,11 +59,11 @@ no_point a [] digit dot = refl
 no_point a (b ∷ bs) digit dot = rw (digit, dot, whole_more, decimals_more)
 
 -- At the point.
-module _ (a : ℕ) (t : List ℕ) (at : ℕ) (dot : begins point (drop at t) ≡ true) where
-  pub point_whole : whole_more a (drop at t) ≡ decimals_first a (drop (at + 1) t)
+module _ (a : ℕ) (bs : List ℕ) where
+  pub point_whole : whole_more a (point ∷ bs) ≡ decimals_first a bs
   unfolding whole_more is_digit
-  point_whole = rw (cons t at (begins_inside point t at dot), begins_is point t at dot)
+  point_whole = refl
 
-  pub point-mantissa : mantissa a (drop at t) ≡ mantissa a (drop (at + 1) t)
+  pub point-mantissa : mantissa a (point ∷ bs) ≡ mantissa a bs
   unfolding mantissa is_digit
-  point-mantissa = rw (cons t at (begins_inside point t at dot), begins_is point t at dot)
+  point-mantissa = refl

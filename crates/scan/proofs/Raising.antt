@@ -1,64 +1,73 @@
 -- What stands behind the digits of a number: nothing, or an exponent. Assumes nothing.
-use Rattle.std.proofs.Common.{◌≡◌, ℕ, ◌+◌, ◌*◌, ◌^◌, ◌<◌, ◌≤◌, Bool, true, false, List, length, get_or, drop, sym, ◌∙◌, ap₂, add-zero, arith, drop_of_length-le, pow-add, ne_eqb}
+use Rattle.std.proofs.Common.{◌≡◌, ℕ, ◌<◌, Bool, true, false, List, [], ◌∷◌, Option, None, Some, OnSome, ◌-◌, length, get_or, take, drop, subst, sym, refl, ◌∙◌, ap₂, add-zero, arith, pow-add, ne_eqb}
 use Rattle.rules.specs.Bytes.{letter_e}
 use Rattle.rules.specs.Reading.{Unsigned, no_number, over, is_digit, powered, exponent_sign, decimals_more}
 use Rattle.scan.specs.Heads.{starts}
 use Rattle.scan.specs.Mantissa.{mantissa}
-use Rattle.scan.specs.Raises.{Raises, Shifts}
-use Rattle.scan.proofs.Passing.{cons, starts_at}
+use Rattle.scan.specs.Raises.{Power, Raises, Shifts}
+use Rattle.scan.proofs.Signing.{behind_byte}
 
 module _ {f : ℕ → ℕ → Unsigned} where
-  pub refuses : ((a n : ℕ) → f a n ≡ no_number) → Raises f 0
-  refuses none = record { fails = λ e. none; holds = λ some. absurd (omega arith) }
-
-  -- The power of ten by its two halves, up and down.
-  raises : (r up down : ℕ) → ((a n : ℕ) → f a n ≡ over (a * 10 ^ up) (10 ^ (n + down))) → r + down ≡ 10000 + up → up ≤ 9999 → down ≤ 9999 → Raises f r
-  raises r up down is place least most =
-      record {
-        fails = λ none. absurd (omega arith);
-        holds = λ some. record { up = up; down = down; is = is; place = place; least = least; most = most };
-      }
-
-  pub shifts : (e r : ℕ) (negative : Bool) → e < 10000 → Shifts negative e r → ((a n : ℕ) → f a n ≡ powered a n negative e) → Raises f r
+  pub shifts : (e r : ℕ) (negative : Bool) → e < 10000 → Shifts negative e r → ((a n : ℕ) → f a n ≡ powered a n negative e) → Power f r
   unfolding powered
-  shifts e r true less place is = raises r 0 e (λ a n. is a n ∙ ap₂ over (omega arith) (sym (pow-add 10 n e))) (omega arith) (omega arith) (omega arith)
-  shifts e r false less place is = raises r e 0 (λ a n. is a n ∙ rw (add-zero n)) (omega arith) (omega arith) (omega arith)
-
-  pub leaves : ((a n : ℕ) → f a n ≡ over a (10 ^ n)) → Raises f 10000
-  leaves is = raises 10000 0 0 (λ a n. is a n ∙ ap₂ over (omega arith) (rw (add-zero n))) (omega arith) (omega arith) (omega arith)
-
-  pub same_power : {g : ℕ → ℕ → Unsigned} {r : ℕ} → ((a n : ℕ) → f a n ≡ g a n) → Raises g r → Raises f r
-  same_power is p =
+  shifts e r true less place is =
       record {
-        fails = λ none a n. is a n ∙ p.fails none a n;
-        holds = λ some.
-            let q = p.holds some in
-            record { up = q.up; down = q.down; is = λ a n. is a n ∙ q.is a n; place = q.place; least = q.least; most = q.most };
+        up = 0;
+        down = e;
+        is = λ a n. is a n ∙ ap₂ over (omega arith) (sym (pow-add 10 n e));
+        place = place;
+        least = omega arith;
+        most = omega arith;
       }
+  shifts e r false less place is =
+      record { up = e; down = 0; is = λ a n. is a n ∙ rw (add-zero n); place = omega arith; least = omega arith; most = omega arith }
+
+  pub same_power : {g : ℕ → ℕ → Unsigned} (r : Option ℕ) → ((a n : ℕ) → f a n ≡ g a n) → Raises g r → Raises f r
+  same_power None is none = λ a n. is a n ∙ none a n
+  same_power (Some r) is q =
+      record { up = q.up; down = q.down; is = λ a n. is a n ∙ q.is a n; place = q.place; least = q.least; most = q.most }
+
+-- What behind digits, at the head of the text t, says of them.
+abbrev Behind : List ℕ → Option ℕ → Type 0
+Behind t r = Raises (λ a n. decimals_more a n t) r × OnSome r ((a : ℕ) → mantissa a t ≡ a)
 
 -- At the end of the text.
-module _ (t : List ℕ) (at : ℕ) (end : length t ≤ at) where
-  pub decimals_end : (a n : ℕ) → decimals_more a n (drop at t) ≡ over a (10 ^ n)
-  unfolding decimals_more
-  decimals_end a n = rw (drop_of_length-le t end)
+pub raised_end : (t : List ℕ) → length t < 1 → Behind t (Some 10000)
+unfolding decimals_more mantissa
+raised_end [] few = (
+  record {
+    up = 0;
+    down = 0;
+    is = λ a n. ap₂ over (omega arith) (rw (add-zero n));
+    place = omega arith;
+    least = omega arith;
+    most = omega arith;
+  },
+  λ a. refl,
+)
+raised_end (b ∷ bs) few = absurd (omega arith)
 
-  pub mantissa_end : (a : ℕ) → mantissa a (drop at t) ≡ a
-  unfolding mantissa
-  mantissa_end a = rw (drop_of_length-le t end)
+-- At an `e`.
+decimals_exponent : (bs : List ℕ) (a n : ℕ) → decimals_more a n (letter_e ∷ bs) ≡ exponent_sign a n bs
+unfolding decimals_more is_digit
+decimals_exponent bs a n = refl
 
--- At a byte that is no digit.
-module _ (t : List ℕ) (at : ℕ) (inside : at < length t) (none : starts (drop at t) ≡ false) where
-  no_digit : is_digit (get_or t at 0) ≡ false
-  no_digit = sym (starts_at t at inside) ∙ none
+mantissa-exponent : (bs : List ℕ) (a : ℕ) → mantissa a (letter_e ∷ bs) ≡ a
+unfolding mantissa is_digit
+mantissa-exponent bs a = refl
 
-  pub decimals_other : (get_or t at 0 ≡ letter_e → ⊥) → (a n : ℕ) → decimals_more a n (drop at t) ≡ no_number
-  unfolding decimals_more
-  decimals_other other a n = rw (cons t at inside, no_digit, ne_eqb (get_or t at 0) letter_e other, decimals_more)
+pub raised_exponent : (t : List ℕ) → 0 < length t → get_or t 0 0 ≡ letter_e → (r : Option ℕ) →
+    Raises (λ a n. exponent_sign a n (take (length t - 1) (drop 1 t))) r → Behind t r
+raised_exponent t some is r raises =
+    let rest = take (length t - 1) (drop 1 t) in
+    subst (λ (u : List ℕ). Behind u r) (sym (behind_byte t letter_e some is)) (same_power r (decimals_exponent rest) raises, ends r)
+  where
+    ends : (o : Option ℕ) → OnSome o ((a : ℕ) → mantissa a (letter_e ∷ take (length t - 1) (drop 1 t)) ≡ a)
+    ends None = tt
+    ends (Some x) = mantissa-exponent (take (length t - 1) (drop 1 t))
 
-  pub decimals_exponent : get_or t at 0 ≡ letter_e → (a n : ℕ) → decimals_more a n (drop at t) ≡ exponent_sign a n (drop (at + 1) t)
-  unfolding decimals_more is_digit
-  decimals_exponent is a n = rw (cons t at inside, is)
-
-  pub mantissa-exponent : get_or t at 0 ≡ letter_e → (a : ℕ) → mantissa a (drop at t) ≡ a
-  unfolding mantissa is_digit
-  mantissa-exponent is a = rw (cons t at inside, is)
+-- At any other byte that is no digit.
+pub raised_other : (t : List ℕ) → 0 < length t → (get_or t 0 0 ≡ letter_e → ⊥) → starts t ≡ false → (a n : ℕ) → decimals_more a n t ≡ no_number
+unfolding starts decimals_more
+raised_other [] some other none a n = absurd (omega arith)
+raised_other (b ∷ bs) some other none a n = rw (none, ne_eqb b letter_e other, decimals_more)

@@ -1,39 +1,32 @@
 -- The `-` that a text, or its exponent, begins with. Assumes nothing.
-use Rattle.std.proofs.Common.{◌≡◌, ℕ, ◌+◌, ◌<◌, ◌≤◌, Bool, true, false, eqb, List, [], ◌∷◌, length, get_or, drop, sym, refl, ◌∙◌, ⊎_elim, true≢false, arith, drop_of_length-le, drop-drop, eqb-true}
-use Rattle.laws.proofs.Branches.{which}
+use Rattle.std.proofs.Common.{◌≡◌, ℕ, Bool, true, false, eqb, List, [], ◌∷◌, ◌-◌, ◌<◌, length, get_or, take, drop, sym, refl, ap, ◌∙◌, true≢false, arith, eq-eqb, ne_eqb}
+use Rattle.std.proofs.lemmas.List.{take_rest}
 use Rattle.rules.specs.Bytes.{minus}
-use Rattle.rules.specs.Reading.{no_number, powered, exponent_first, exponent_sign}
-use Rattle.scan.specs.declared.heads.Signed.{Signed}
+use Rattle.rules.specs.Reading.{exponent_first, exponent_sign}
 use Rattle.scan.specs.Heads.{begins}
 use Rattle.scan.specs.Mantissa.{behind_sign}
-use Rattle.scan.specs.Raises.{Counts}
+use Rattle.scan.specs.Passes.{Ends}
 use Rattle.scan.specs.Signs.{Signs}
-use Rattle.scan.proofs.Passing.{cons}
+use Rattle.scan.proofs.Passing.{cons, ends_all, ends_drop}
 
--- The byte b stands at a place of the text t, or not.
-module _ (b : ℕ) (t : List ℕ) (at : ℕ) where
-  pub begins_at : at < length t → begins b (drop at t) ≡ eqb (get_or t at 0) b
-  unfolding begins
-  begins_at inside = rw (cons t at inside)
+-- The text behind its first byte.
+pub behind_byte : (t : List ℕ) (b : ℕ) → 0 < length t → get_or t 0 0 ≡ b → t ≡ b ∷ take (length t - 1) (drop 1 t)
+behind_byte t b some is = rw (take_rest t 1) (cons t 0 some ∙ ap (λ (c : ℕ). c ∷ drop 1 t) is)
 
-  pub begins_end : length t ≤ at → begins b (drop at t) ≡ false
-  unfolding begins
-  begins_end end = rw (drop_of_length-le t end)
+pub not_begun : (b : ℕ) (t : List ℕ) → (0 < length t → get_or t 0 0 ≡ b → ⊥) → begins b t ≡ false
+unfolding begins
+not_begun b [] other = refl
+not_begun b (c ∷ cs) other = ne_eqb c b (other (omega arith))
 
-  pub begins_inside : begins b (drop at t) ≡ true → at < length t
-  begins_inside is = ⊎_elim (λ less. less) (λ end. absurd (true≢false (sym is ∙ begins_end end))) (which at (length t))
+-- With a `-`, and without.
+pub negative_head : (t : List ℕ) → 0 < length t → get_or t 0 0 ≡ minus → Signs t true (take (length t - 1) (drop 1 t))
+unfolding begins behind_sign
+negative_head [] some is = absurd (omega arith)
+negative_head (b ∷ bs) some is = record { negative = sym (eq-eqb b minus is); behind = take_rest (b ∷ bs) 1 }
 
-  pub begins_is : begins b (drop at t) ≡ true → get_or t at 0 ≡ b
-  begins_is is = eqb-true (get_or t at 0) b (sym (begins_at (begins_inside is)) ∙ is)
-
-module _ (t : List ℕ) (at : ℕ) where
-  pub negative_at : begins minus (drop at t) ≡ true → Signs t at (record { negative = true; from = at + 1 })
-  unfolding behind_sign
-  negative_at is = record { negative = sym is; inside = omega (arith, begins_inside minus t at is); rest = sym (drop-drop 1 at t) }
-
-  pub positive_at : at ≤ length t → begins minus (drop at t) ≡ false → Signs t at (record { negative = false; from = at })
-  unfolding behind_sign
-  positive_at inside is = record { negative = sym is; inside = inside; rest = refl }
+pub positive_head : (t : List ℕ) → begins minus t ≡ false → Signs t false t
+unfolding behind_sign
+positive_head t is = record { negative = sym is; behind = refl }
 
 -- What goes on behind a sign goes on with it.
 pub at_sign {ℓ} : {A : Type ℓ} (f : Bool → List ℕ → A) (b : ℕ) (bs : List ℕ) (m : Bool) →
@@ -48,12 +41,12 @@ unfolding exponent_sign exponent_first begins behind_sign
 by_sign a n [] = refl
 by_sign a n (b ∷ bs) = at_sign (exponent_first a n) b bs (eqb b minus)
 
-module _ {t : List ℕ} {at e : ℕ} {x : Signed} (s : Signs t at x) (digits : Counts (drop x.from t) e) (a n : ℕ) where
-  behind : exponent_sign a n (drop at t) ≡ exponent_first a n x.negative (drop x.from t)
-  behind = by_sign a n (drop at t) ∙ rw (s.rest, s.negative)
+pub behind : {t rest : List ℕ} {sign : Bool} → Signs t sign rest → (a n : ℕ) → exponent_sign a n t ≡ exponent_first a n sign rest
+behind {t} s a n = by_sign a n t ∙ rw (s.behind, s.negative)
 
-  pub no_exponent : e ≡ 10000 → exponent_sign a n (drop at t) ≡ no_number
-  no_exponent none = behind ∙ digits.fails none a n x.negative
-
-  pub signed-exponent : e < 10000 → exponent_sign a n (drop at t) ≡ powered a n x.negative e
-  signed-exponent less = behind ∙ digits.holds less a n x.negative
+-- What is behind a sign is the end of the text.
+pub sign_ends : {t rest : List ℕ} {sign : Bool} → Signs t sign rest → Ends t rest
+unfolding begins behind_sign
+sign_ends {t = []} {sign = true} s = absurd (true≢false s.negative)
+sign_ends {t = b ∷ bs} {sign = true} s = rw s.behind (ends_drop 1 (b ∷ bs) (omega arith))
+sign_ends {t} {sign = false} s = rw s.behind (ends_all t)

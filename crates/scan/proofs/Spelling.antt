@@ -1,8 +1,9 @@
 -- Eight bytes in one word: whether all are digits, and the number that they make. Assumes nothing.
-use Rattle.std.proofs.Common.{◌≡◌, ℕ, zero, suc, ◌+◌, ◌-◌, ◌*◌, ◌/◌, ◌%◌, ◌<◌, ◌≤◌, true, List, [], ◌∷◌, map, length, get_or, drop, replicate, sym, refl, ap, ◌∙◌, subst, mod-lt, mod-eq_of_lt, arith, lit<, lit≤}
+use Rattle.std.proofs.Common.{◌≡◌, ℕ, zero, suc, ◌+◌, ◌-◌, ◌*◌, ◌/◌, ◌%◌, ◌<◌, true, List, [], ◌∷◌, map, length, get_or, drop, replicate, sym, refl, ap, ◌∙◌, subst, mod-lt, mod-eq_of_lt, arith, lit<, lit≤}
 use lib.Bits.{bit_and, bit_xor, and_high, and_mask, and_le_r, xor_block, xor_lt, xor_zero_r}
 use lib.ListN.{length-map}
 use lib.Pow.{split}
+use Rattle.std.specs.Int.{w64, from_le_bytes}
 use Rattle.laws.specs.Lanes.{Below, word, paired}
 use Rattle.laws.proofs.Tests.{le, ◌and◌, every}
 use Rattle.laws.proofs.Lanes.{mapped, mapped_below, masked, flipped, added, tested, paired-below, pairs}
@@ -60,12 +61,6 @@ twos n = bit_and (n * 10 + n / 0x100) 0x00FF_00FF_00FF_00FF
 
 abbrev pub fours : ℕ → ℕ
 fours n = bit_and (n * 100 + n / 0x1_0000) 0x0000_FFFF_0000_FFFF
-
-pub twos_most : (n : ℕ) → twos n ≤ 0x00FF_00FF_00FF_00FF
-twos_most n = and_le_r (n * 10 + n / 0x100) 0x00FF_00FF_00FF_00FF
-
-pub fours_most : (n : ℕ) → fours n ≤ 0x0000_FFFF_0000_FFFF
-fours_most n = and_le_r (n * 100 + n / 0x1_0000) 0x0000_FFFF_0000_FFFF
 
 abbrev pub eights : ℕ → ℕ
 eights n = bit_and (n * 10000 + n / 0x1_0000_0000) 0xFFFF_FFFF
@@ -147,7 +142,7 @@ passed (x ∷ xs) a digit = more (digit 0 (omega arith)) (passed xs (extended a 
 
 -- So they make the number that their lower halves make.
 abbrev Spelled : ℕ → List ℕ → Type 0
-Spelled r xs = ((i : ℕ) → i < 8 → Digit (get_or xs i 0)) → Joins (word 8 (map low (map above xs))) r → (r ≤ 100000000) × Passes 0 xs 8 r []
+Spelled r xs = ((i : ℕ) → i < 8 → Digit (get_or xs i 0)) → Joins (word 8 (map low (map above xs))) r → (r < 100000000) × Passes 0 xs 8 r []
 
 by_digits : (r a b c d e f g h : ℕ) → Spelled r (a ∷ b ∷ c ∷ d ∷ e ∷ f ∷ g ∷ h ∷ [])
 unfolding word paired extended
@@ -164,7 +159,7 @@ by_digits r a b c d e f g h digit lanes =
     let below : (i : ℕ) → i < 8 → low (get_or (map above xs) i 0) < 10 =
     λ i less. rw (mapped above xs i less) (digit i less).small in
     let made = lanes.joins (map low (map above xs)) refl (mapped_below low 10 (map above xs) (lit< tt) below) refl in
-    let few : r ≤ 100000000 = omega (arith, made, D0.small, D1.small, D2.small, D3.small, D4.small, D5.small, D6.small, D7.small) in
+    let few : r < 100000000 = omega (arith, made, D0.small, D1.small, D2.small, D3.small, D4.small, D5.small, D6.small, D7.small) in
     let is : number 0 xs ≡ r = omega (arith, made, D0.value, D1.value, D2.value, D3.value, D4.value, D5.value, D6.value, D7.value) in
     (few, rw (← is) (passed xs 0 (λ i less. (digit i less).digit)))
 
@@ -176,15 +171,17 @@ spelled {v} {r} upper lower joins =
           let digit = digits xs l bytes (rw e upper) (rw e lower) in
           let lanes : Joins (word 8 (map low (map above xs))) r =
           rw (← lows (map above xs) (length-map xs above ∙ l) (aboves_below xs bytes), e) joins in
-          let all = subst (Spelled r) (sym (spread 8 xs l)) (by_digits r _ _ _ _ _ _ _ _) digit lanes in
-          (all.0, λ less. all.1);
+          subst (Spelled r) (sym (spread 8 xs l)) (by_digits r _ _ _ _ _ _ _ _) digit lanes;
     }
+
+-- ---- eight bytes as they are read
+
+-- As a word they are the number that the library reads of them.
+pub read_word : (xs : List ℕ) → length xs ≡ 8 → from_le_bytes w64 xs ≡ word 8 xs
+unfolding word
+read_word xs l = subst (λ (ys : List ℕ). from_le_bytes w64 ys ≡ word 8 ys) (sym (spread 8 xs l)) (omega arith)
 
 -- Eight bytes with the digit 0 taken away.
 pub aboves : (xs : List ℕ) → length xs ≡ 8 → Below 256 xs → bit_xor (word 8 xs) 0x3030_3030_3030_3030 ≡ word 8 (map above xs)
 unfolding word
 aboves xs l bytes = ap (λ (n : ℕ). bit_xor (word 8 xs) (word 8 (replicate n 0x30))) (sym l) ∙ flipped 8 0x30 xs bytes (lit< tt)
-
--- A number that stands for none spells nothing.
-pub unspelled : (v : ℕ) → Spells v 100000000
-unspelled v = record { spells = λ xs l bytes e. (omega arith, λ less. absurd (omega arith)) }

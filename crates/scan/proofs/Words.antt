@@ -1,53 +1,28 @@
 -- The texts that are words, and the sign of a text. Assumes nothing.
-use Rattle.std.proofs.Common.{◌≡◌, ℕ, suc, ◌+◌, ◌≤◌, Bool, true, false, ◌&&◌, eqb, List, [], ◌∷◌, length, get_or, drop, sym, refl, ap, ◌∙◌, true≢false, arith, drop_of_length-le, ne_eqb, eqb-true}
+use Rattle.std.proofs.Common.{◌≡◌, ℕ, Bool, true, false, eqb, ◌&&◌, List, [], ◌∷◌, Some, None, sym, refl, ap, ◌∙◌, true≢false, ne_eqb, eqb-true}
+use Rattle.std.specs.Bool.{then_some}
+use Rattle.std.specs.Cmp.Lexicographic.{pointwise}
 use Rattle.rules.specs.Bytes.{bytes, minus}
 use Rattle.rules.specs.Reading.{refused, notANumber, infinite, is_digit, same, unsigned, with_fraction, magnitude_of, exact}
-use Rattle.scan.specs.declared.Scanned.{Scanned}
-use Rattle.scan.specs.declared.Scanned.TheVariants.{Refused, NotANumber, Infinite, Number}
-use Rattle.scan.specs.declared.heads.Signed.{Signed}
+use Rattle.scan.specs.declared.Decimal.{Decimal}
+use Rattle.scan.specs.declared.Scanned.TheVariants.{Infinite, Number}
 use Rattle.scan.specs.Heads.{starts, begins}
 use Rattle.scan.specs.Mantissa.{mantissa, behind_sign}
 use Rattle.scan.specs.Scans.{Scans, Tells}
 use Rattle.scan.specs.Signs.{Signs}
-use Rattle.scan.proofs.Passing.{cons}
 use Rattle.scan.proofs.Parts.{unsigned_none}
 use Rattle.scan.proofs.Signing.{at_sign}
 
--- ---- comparing byte by byte
-
--- Texts of different lengths are not the same.
-pub other_length : (t w : List ℕ) → (length t ≡ length w → ⊥) → same t w ≡ false
+-- The library compares texts likewise.
+same_is : (t w : List ℕ) → same t w ≡ pointwise eqb t w
 unfolding same
-other_length [] [] other = absurd (other refl)
-other_length [] (b ∷ bs) other = refl
-other_length (a ∷ as') [] other = refl
-other_length (a ∷ as') (b ∷ bs) other = rw (other_length as' bs (λ e. other (ap suc e))) (never (eqb a b))
-  where
-    never : (t : Bool) → (t && false) ≡ false
-    never true = refl
-    never false = refl
+same_is [] [] = refl
+same_is [] (b ∷ bs) = refl
+same_is (a ∷ as') [] = refl
+same_is (a ∷ as') (b ∷ bs) = ap (λ (r : Bool). eqb a b && r) (same_is as' bs)
 
--- The last three bytes of a text, one by one.
-pub three : (t : List ℕ) (at a b c : ℕ) → length t ≡ at + 3 →
-    same (drop at t) (a ∷ b ∷ c ∷ []) ≡ (eqb (get_or t at 0) a && (eqb (get_or t (at + 1) 0) b && eqb (get_or t (at + 2) 0) c))
-unfolding same
-three t at a b c end =
-    let second : at + 1 + 1 ≡ at + 2 = omega arith in
-    let third : at + 2 + 1 ≡ at + 3 = omega arith in
-    let past : length t ≤ at + 3 = omega arith in
-    rw (
-      cons t at (omega arith),
-      cons t (at + 1) (omega arith),
-      second,
-      cons t (at + 2) (omega arith),
-      third,
-      drop_of_length-le t past,
-      always (eqb (get_or t (at + 2) 0) c),
-    )
-  where
-    always : (x : Bool) → (x && true) ≡ x
-    always true = refl
-    always false = refl
+pub compared : (t w u : List ℕ) (r : Bool) → u ≡ w → r ≡ pointwise eqb t u → same t w ≡ r
+compared t w u r is e = same_is t w ∙ sym (rw is at e)
 
 -- A text that begins with a digit is no word that does not.
 other_start : (t : List ℕ) (b : ℕ) (w : List ℕ) → is_digit b ≡ false → starts t ≡ true → same t (b ∷ w) ≡ false
@@ -58,10 +33,10 @@ other_start (a ∷ as') b w letter digit = rw (ne_eqb a b (λ e. true≢false (s
 -- ---- the words
 
 -- Their bytes.
-abbrev nan : List ℕ
+abbrev pub nan : List ℕ
 nan = 78 ∷ 97 ∷ 78 ∷ []
 
-abbrev inf : List ℕ
+abbrev pub inf : List ℕ
 inf = 105 ∷ 110 ∷ 102 ∷ []
 
 spells_nan : bytes "NaN" ≡ nan
@@ -83,54 +58,59 @@ unfolding exact magnitude_of with_fraction unsigned begins behind_sign same byte
 signed [] other = refl
 signed (b ∷ bs) other = rw (other, exact) (at_sign magnitude_of b bs (eqb b minus))
 
-module _ {t : List ℕ} {x : Signed} (s : Signs t 0 x) where
-  by_magnitude : same t nan ≡ false → exact t ≡ magnitude_of x.negative (drop x.from t)
-  by_magnitude other = rw (s.rest, s.negative) (signed t other)
+module _ {t rest : List ℕ} {sign : Bool} (s : Signs t sign rest) where
+  by_magnitude : same t nan ≡ false → exact t ≡ magnitude_of sign rest
+  by_magnitude other = rw (s.behind, s.negative) (signed t other)
 
-  pub reads_infinite : same t nan ≡ false → same (drop x.from t) inf ≡ true → exact t ≡ infinite x.negative
+  reads_infinite : same t nan ≡ false → same rest inf ≡ true → exact t ≡ infinite sign
   unfolding magnitude_of
   reads_infinite other is = by_magnitude other ∙ rw (spells_inf, is, magnitude_of)
 
-  by_digits : same t nan ≡ false → same (drop x.from t) inf ≡ false →
-      exact t ≡ with_fraction x.negative (unsigned (drop x.from t))
+  by_digits : same t nan ≡ false → same rest inf ≡ false →
+      exact t ≡ with_fraction sign (unsigned rest)
   unfolding magnitude_of
   by_digits other is = by_magnitude other ∙ rw (spells_inf, is, magnitude_of)
 
-  pub reads_nothing : same t nan ≡ false → same (drop x.from t) inf ≡ false →
-      starts (drop x.from t) ≡ false → exact t ≡ refused
+  reads_nothing : same t nan ≡ false → same rest inf ≡ false →
+      starts rest ≡ false → exact t ≡ refused
   unfolding with_fraction
-  reads_nothing other is digit = by_digits other is ∙ rw (unsigned_none (drop x.from t) digit)
+  reads_nothing other is digit = by_digits other is ∙ rw (unsigned_none rest digit)
+
+  pub reads_word : same t nan ≡ false → (r : Bool) → same rest inf ≡ r → starts rest ≡ false → Scans t (then_some r (Infinite sign))
+  reads_word other true is digit = reads_infinite other is
+  reads_word other false is digit = reads_nothing other is digit
 
   -- A text with a digit behind its sign is no word.
-  module _ (digit : starts (drop x.from t) ≡ true) where
+  module _ (digit : starts rest ≡ true) where
     not_nan : same t nan ≡ false
     unfolding begins same behind_sign is_digit
-    not_nan = by_sign t (begins minus t) refl (rw (s.rest, s.negative) at digit)
+    not_nan = by_sign t (begins minus t) refl (rw (s.behind, s.negative) at digit)
       where
         by_sign : (u : List ℕ) (m : Bool) → begins minus u ≡ m → starts (behind_sign m u) ≡ true → same u nan ≡ false
         by_sign [] m is first = refl
         by_sign (b ∷ bs) true is first = rw (eqb-true b minus is)
         by_sign (b ∷ bs) false is first = other_start (b ∷ bs) 78 (97 ∷ 78 ∷ []) refl first
 
-    reads_number : exact t ≡ with_fraction x.negative (unsigned (drop x.from t))
+    reads_number : exact t ≡ with_fraction sign (unsigned rest)
     unfolding is_digit
-    reads_number = by_digits not_nan (other_start (drop x.from t) 105 (110 ∷ 102 ∷ []) refl digit)
+    reads_number = by_digits not_nan (other_start rest 105 (110 ∷ 102 ∷ []) refl digit)
 
     -- What tells of the digits tells of the text.
-    pub with_sign : (r : Scanned) → Tells (unsigned (drop x.from t)) (mantissa 0 (drop x.from t)) x.negative r → Scans t r
+    pub with_sign : {y : Decimal} → Tells (unsigned rest) (mantissa 0 rest) sign (Some y) → Scans t (Some (Number y))
     unfolding with_fraction
-    with_sign Refused none = reads_number ∙ rw none
-    with_sign NotANumber never = absurd never
-    with_sign (Infinite i) never = absurd never
-    with_sign (Number y) f =
-        let rest : behind_sign y.negative t ≡ drop x.from t = rw f.sign (sym s.rest) in
+    with_sign {y} f =
+        let text : behind_sign y.negative t ≡ rest = rw f.sign (sym s.behind) in
         record {
           up = f.up;
           down = f.down;
-          says = rw (rest, f.sign) (reads_number ∙ rw f.says);
-          kept = rw rest f.kept;
+          says = rw (text, f.sign) (reads_number ∙ rw f.says);
+          kept = rw text f.kept;
           place = f.place;
           few = f.few;
           most = f.most;
           least = f.least;
         }
+
+    pub without_number : Tells (unsigned rest) (mantissa 0 rest) sign None → Scans t None
+    unfolding with_fraction
+    without_number none = reads_number ∙ rw none

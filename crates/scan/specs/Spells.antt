@@ -1,5 +1,5 @@
 -- Eight bytes in one word, and the number that they make where all are digits. Assumes nothing.
-use Rattle.std.specs.Prelude.{◌≡◌, ℕ, ◌<◌, ◌≤◌, List, [], map, length, bit_xor}
+use Rattle.std.specs.Prelude.{◌≡◌, ℕ, ◌<◌, List, [], map, length, bit_xor}
 use Rattle.laws.specs.Lanes.{word, paired, Below}
 use Rattle.scan.specs.Passes.{Passes}
 
@@ -11,6 +11,6 @@ pub record Joins (n r : ℕ) : Type 0 where
 abbrev pub above : ℕ → ℕ
 above b = bit_xor b 0x30
 
--- Where r is below 100,000,000, the eight bytes that the word v comes from are digits, and make r.
+-- The eight bytes that the word v comes from are digits, and make r.
 pub record Spells (v r : ℕ) : Type 0 where
-  pub spells : (xs : List ℕ) → length xs ≡ 8 → Below 256 xs → word 8 (map above xs) ≡ v → (r ≤ 100000000) × (r < 100000000 → Passes 0 xs 8 r [])
+  pub spells : (xs : List ℕ) → length xs ≡ 8 → Below 256 xs → word 8 (map above xs) ≡ v → (r < 100000000) × Passes 0 xs 8 r []

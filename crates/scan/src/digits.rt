@@ -1,206 +1,55 @@
 // Digits: one by one, or eight at a time, with what is kept of the number they make.
-ghost use Rattle.std.specs.Prelude.{◌≡◌, ℕ, ◌+◌, ◌-◌, ◌*◌, ◌^◌, ◌<◌, ◌≤◌, true, false, length, take, drop};
-ghost use Rattle.laws.specs.Lanes.{word};
+ghost use Rattle.std.specs.Prelude.{◌≡◌, ℕ, ◌+◌, ◌-◌, ◌*◌, ◌^◌, ◌<◌, ◌≤◌, true, false, [], length, drop, MatchOption, IfSome};
 ghost use Rattle.rules.specs.Bytes.{byte0};
 ghost use Rattle.rules.specs.Reading.{is_digit};
-ghost use Rattle.scan.specs.Passes.{Makes};
+ghost use Rattle.scan.specs.Heads.{starts};
+ghost use Rattle.scan.specs.Passes.{Makes, Ends};
 ghost use Rattle.scan.specs.Spells.{Joins, Spells};
-ghost use Rattle.scan.specs.Goes.{Keeps, no_digits, Goes, Reaches};
+ghost use Rattle.scan.specs.Goes.{Keeps, all_of, no_digits, Goes, Reaches};
 
-// What is kept of digits.
-#[derive(Clone, Copy)]
+use crate::heads;
+
+// What is kept of digits: the number that the first 19 at most make, how many follow, and whether one of those is not 0.
+#[derive(Clone, Copy, PartialEq, Eq, Debug)]
 pub struct Held {
     pub digits: u64,
     pub dropped: u32,
     pub more: bool,
 }
 
-// The place behind digits, and what is kept of them.
+// What is kept of digits, and the text behind them.
 #[derive(Clone, Copy)]
-pub struct Run {
-    pub at: usize,
+pub struct Run<'a> {
     pub held: Held,
+    pub rest: &'a [u8],
 }
 
-// Whether a byte is a digit.
-pub fn is_digit(b: u8) -> bool
-    ensures { result ≡ is_digit b }
+// A number of digits that are kept has room for another below this.
+const ROOM: u64 = 1000000000000000000;
+
+// Eight digits 0.
+const ZEROS: u64 = 0x3030_3030_3030_3030;
+
+// The value of a digit.
+pub fn value(b: u8) -> Option<u64>
+    ensures { MatchOption result (is_digit b ≡ false) (λ v. (is_digit b ≡ true) × (v ≡ b - byte0)) }
 {
-    if b < b'0' {
-        return false;
-    }
-    b < b':'
+    let v = u64::from(b).wrapping_sub(u64::from(b'0'));
+    (v < 10).then_some(v)
 }
 
-// The value of a digit; more than 9 of any other byte.
-pub fn value(b: u8) -> u64
-    ensures { (9 < result → is_digit b ≡ false) × (result ≤ 9 → (is_digit b ≡ true) × (result ≡ b - byte0)) }
+// Digits that are all kept.
+fn all_of(digits: u64) -> Held
+    ensures { result ≡ all_of digits }
 {
-    std::num::wrapping_sub_u64(b as u64, 48)
-}
-
-// One digit more: kept where there is room for it.
-fn push(held: Held, digit: u64) -> Held
-    requires { (digit < 10) × (held.dropped < 1000) }
-    ensures { (result.dropped ≤ held.dropped + 1) × ((a : ℕ) → Keeps a held → Keeps (a * 10 + digit) result) }
-{
-    if held.digits < 1000000000000000000 {
-        return Held {
-            digits: held.digits * 10 + digit,
-            dropped: held.dropped,
-            more: held.more,
-        };
-    }
-    if digit == 0 {
-        return Held {
-            digits: held.digits,
-            dropped: held.dropped + 1,
-            more: held.more,
-        };
-    }
     Held {
-        digits: held.digits,
-        dropped: held.dropped + 1,
-        more: true,
+        digits,
+        dropped: 0,
+        more: false,
     }
 }
 
-// The digits from a place on, one by one.
-fn digits(s: &[u8], from: usize, start: Held) -> Run
-    requires { (from ≤ length s.now) × (length s.now ≤ 64) × (start.dropped ≤ from) }
-    ensures { Reaches s.now from start result }
-{
-    let mut held = start;
-    let mut i = from;
-    while i < s.len() {
-        let digit = value(s[i]);
-        if 9 < digit {
-            return Run { at: i, held };
-        }
-        held = push(held, digit);
-        i += 1;
-    }
-    Run { at: i, held }
-}
-
-// The place at which 18 digits from a place on end, or the text.
-fn end_of_18(s: &[u8], from: usize) -> usize
-    requires { (from ≤ length s.now) × (length s.now ≤ 64) }
-    ensures { (result ≤ from + 18) × (result ≤ length s.now) }
-{
-    if from + 18 < s.len() {
-        return from + 18;
-    }
-    s.len()
-}
-
-// Digits from a place on, one by one, 18 at most: all of them are kept, with no test for room.
-fn leading(s: &[u8], from: usize) -> Run
-    requires { (from ≤ length s.now) × (length s.now ≤ 64) }
-    ensures { Goes s.now from no_digits result.at result.held }
-{
-    let end = end_of_18(s, from);
-    let mut n: u64 = 0;
-    let mut i = from;
-    while i < end {
-        let digit = value(s[i]);
-        if 9 < digit {
-            return Run {
-                at: i,
-                held: Held {
-                    digits: n,
-                    dropped: 0,
-                    more: false,
-                },
-            };
-        }
-        n = n * 10 + digit;
-        i += 1;
-    }
-    Run {
-        at: i,
-        held: Held {
-            digits: n,
-            dropped: 0,
-            more: false,
-        },
-    }
-}
-
-// The digits from a place on, before which there are none.
-pub fn whole(s: &[u8], from: usize) -> Run
-    requires { (from ≤ length s.now) × (length s.now ≤ 64) }
-    ensures { Reaches s.now from no_digits result }
-{
-    let front = leading(s, from);
-    digits(s, front.at, front.held)
-}
-
-// Four bytes of a text as one word, the first the lowest.
-fn half_at(s: &[u8], at: usize) -> u64
-    requires { at + 4 ≤ length s.now }
-    ensures { (result < 2 ^ 32) × (result ≡ word 8 (take 4 (drop at s.now))) }
-{
-    let a = s[at] as u64;
-    let b = s[at + 1] as u64;
-    let c = s[at + 2] as u64;
-    let d = s[at + 3] as u64;
-    a + b * 0x100 + c * 0x1_0000 + d * 0x100_0000
-}
-
-// Eight bytes of a text as one word, the first the lowest.
-fn word_at(s: &[u8], at: usize) -> u64
-    requires { at + 8 ≤ length s.now }
-    ensures { result ≡ word 8 (take 8 (drop at s.now)) }
-{
-    let low = half_at(s, at);
-    let high = half_at(s, at + 4);
-    low + high * 0x1_0000_0000
-}
-
-// The number that eight digits make, each in a byte of a word and the first the lowest.
-fn joined(n: u64) -> u64
-    requires { n ≤ 0x0F0F_0F0F_0F0F_0F0F }
-    ensures { Joins n result }
-{
-    let twos = (n * 10 + (n >> 8)) & 0x00FF_00FF_00FF_00FF;
-    let fours = (twos * 100 + (twos >> 16)) & 0x0000_FFFF_0000_FFFF;
-    (fours * 10000 + (fours >> 32)) & 0xFFFF_FFFF
-}
-
-// The number that eight digits make, each in a byte of a word by its value and the first the lowest; 100,000,000 if one is above 9.
-fn spelled(v: u64) -> u64
-    ensures { Spells v result }
-{
-    if v & 0xF0F0_F0F0_F0F0_F0F0 != 0 {
-        return 100000000;
-    }
-    let n = v & 0x0F0F_0F0F_0F0F_0F0F;
-    if (n + 0x0606_0606_0606_0606) & 0xF0F0_F0F0_F0F0_F0F0 != 0 {
-        return 100000000;
-    }
-    joined(n)
-}
-
-// The number that eight bytes make if all are digits, else 100,000,000.
-fn eight(s: &[u8], at: usize) -> u64
-    requires { at + 8 ≤ length s.now }
-    ensures { (result ≤ 100000000) × (result < 100000000 → Makes 8 s.now at result) }
-{
-    spelled(word_at(s, at) ^ 0x3030_3030_3030_3030)
-}
-
-// The number that the last n bytes of a text make if all are digits, else 100,000,000: those before count as 0.
-fn last(s: &[u8], n: usize) -> u64
-    requires { (8 ≤ length s.now) × (0 < n) × (n ≤ 8) }
-    ensures { (result ≤ 100000000) × (result < 100000000 → Makes n s.now (length s.now - n) result) }
-{
-    let v = word_at(s, s.len() - 8) ^ 0x3030_3030_3030_3030;
-    let skip = 64 - 8 * n;
-    spelled(v >> skip << skip)
-}
-
-// 10^n.
+// 10^n, by a table: with `pow`, which is a loop, a short number takes a fifth longer to read.
 fn ten_to(n: usize) -> u64
     requires { n ≤ 18 }
     ensures { result ≡ 10 ^ n }
@@ -235,70 +84,171 @@ fn longer(held: Held, n: usize, v: u64) -> Held
 {
     Held {
         digits: held.digits * ten_to(n) + v,
-        dropped: held.dropped,
-        more: held.more,
+        ..held
     }
 }
 
-// Digits from a place on, eight at a time while there are as many and all are kept.
-fn eights(s: &[u8], from: usize, start: Held) -> Run
-    requires { (from ≤ length s.now) × (length s.now ≤ 64) }
-    ensures { Goes s.now from start result.at result.held }
+// Digits at the head of a text, one by one, while there is room for them.
+fn kept(text: &[u8], start: Held) -> Run<'_>
+    ensures goes { Goes text.now start result.rest.now result.held }
+    ensures ends { result.held.digits < 10 ^ 18 → starts result.rest.now ≡ false }
+{
+    let mut digits = start.digits;
+    let mut rest = text;
+    while digits < ROOM {
+        let [b, behind @ ..] = rest else {
+            break;
+        };
+        let Some(digit) = value(*b) else {
+            break;
+        };
+        digits = digits * 10 + digit;
+        rest = behind;
+    }
+    let held = Held { digits, ..start };
+    Run { held, rest }
+}
+
+// Digits at the head of a text for which there is no room.
+fn dropped(text: &[u8], start: Held) -> Run<'_>
+    requires { (10 ^ 18 ≤ start.digits) × (start.dropped + length text.now ≤ 64) }
+    ensures { Reaches text.now start result.rest.now result.held }
 {
     let mut held = start;
-    let mut i = from;
-    while i + 8 <= s.len() {
-        if 10000000000 <= held.digits {
-            return Run { at: i, held };
-        }
-        let v = eight(s, i);
-        if v == 100000000 {
-            return Run { at: i, held };
-        }
-        held = longer(held, 8, v);
-        i += 8;
+    let mut rest = text;
+    while let [b, behind @ ..] = rest {
+        let Some(digit) = value(*b) else {
+            break;
+        };
+        held.dropped += 1;
+        held.more |= digit != 0;
+        rest = behind;
     }
-    Run { at: i, held }
+    Run { held, rest }
 }
 
-// The digits from a place to the end of the text, if they are eight at most and all are kept.
-fn ending(s: &[u8], from: usize, start: Held) -> Run
-    requires { (from ≤ length s.now) × (length s.now ≤ 64) }
-    ensures { Goes s.now from start result.at result.held }
+// The digits at the head of a text, one by one.
+fn digits(text: &[u8], start: Held) -> Run<'_>
+    requires { start.dropped + length text.now ≤ 64 }
+    ensures { Reaches text.now start result.rest.now result.held }
 {
-    let none = Run {
-        at: from,
-        held: start,
-    };
-    let n = s.len() - from;
-    if s.len() < 8 {
-        return none;
+    let front = kept(text, start);
+    if front.held.digits < ROOM {
+        return front;
     }
-    if n == 0 {
-        return none;
-    }
-    if 8 < n {
-        return none;
-    }
-    if ten_to(18 - n) <= start.digits {
-        return none;
-    }
-    let v = last(s, n);
-    if v == 100000000 {
-        return none;
+    dropped(front.rest, front.held)
+}
+
+// Digits at the head of a text, one by one, 18 at most: all of them are kept, with no test for room.
+fn leading(text: &[u8]) -> Run<'_>
+    ensures { Goes text.now no_digits result.rest.now result.held }
+{
+    let front = &text[..text.len().min(18)];
+    let mut n: u64 = 0;
+    for (i, b) in front.iter().enumerate() {
+        let Some(digit) = value(*b) else {
+            return Run {
+                held: all_of(n),
+                rest: &text[i..],
+            };
+        };
+        n = n * 10 + digit;
     }
     Run {
-        at: from + n,
-        held: longer(start, n, v),
+        held: all_of(n),
+        rest: &text[front.len()..],
     }
 }
 
-// The digits from a place on: eight at a time, those at the end, and what is left one by one.
-pub fn decimals(s: &[u8], from: usize, start: Held) -> Run
-    requires { (from ≤ length s.now) × (length s.now ≤ 64) × (start.dropped ≤ from) }
-    ensures { Reaches s.now from start result }
+// The digits at the head of a text, before which there are none.
+pub fn whole(text: &[u8]) -> Run<'_>
+    requires { length text.now ≤ 64 }
+    ensures { Reaches text.now no_digits result.rest.now result.held }
 {
-    let front = eights(s, from, start);
-    let most = ending(s, front.at, front.held);
-    digits(s, most.at, most.held)
+    let front = leading(text);
+    if heads::starts(front.rest) {
+        return digits(front.rest, front.held);
+    }
+    front
+}
+
+// The number that eight digits make, each in a byte of a word and the first the lowest.
+fn joined(n: u64) -> u64
+    requires { n ≤ 0x0F0F_0F0F_0F0F_0F0F }
+    ensures { Joins n result }
+{
+    let twos = (n * 10 + (n >> 8)) & 0x00FF_00FF_00FF_00FF;
+    let fours = (twos * 100 + (twos >> 16)) & 0x0000_FFFF_0000_FFFF;
+    (fours * 10000 + (fours >> 32)) & 0xFFFF_FFFF
+}
+
+// The number that eight digits make, each in a byte of a word by its value and the first the lowest, if none is above 9.
+fn spelled(v: u64) -> Option<u64>
+    ensures { IfSome result (Spells v) }
+{
+    if v & 0xF0F0_F0F0_F0F0_F0F0 != 0 {
+        return None;
+    }
+    let n = v & 0x0F0F_0F0F_0F0F_0F0F;
+    if (n + 0x0606_0606_0606_0606) & 0xF0F0_F0F0_F0F0_F0F0 != 0 {
+        return None;
+    }
+    Some(joined(n))
+}
+
+// The number that the first eight bytes of a text make, if all are digits.
+fn first(text: &[u8]) -> Option<u64>
+    ensures { IfSome result (λ v. (8 ≤ length text.now) × (v < 100000000) × Makes 8 text.now v (drop 8 text.now)) }
+{
+    spelled(u64::from_le_bytes(*text.first_chunk::<8>()?) ^ ZEROS)
+}
+
+// The number that the last n bytes of a text make if all are digits: those before count as 0.
+fn last(text: &[u8], n: usize) -> Option<u64>
+    requires { (0 < n) × (n ≤ 8) }
+    ensures { IfSome result (λ v. (v < 100000000) × Makes n (drop (length text.now - n) text.now) v []) }
+{
+    let v = u64::from_le_bytes(*text.last_chunk::<8>()?) ^ ZEROS;
+    let skip = 64 - 8 * n;
+    spelled(v >> skip << skip)
+}
+
+// Digits at the head of a text, eight at a time while there are as many and all are kept.
+fn eights(text: &[u8], start: Held) -> Run<'_>
+    ensures { Goes text.now start result.rest.now result.held }
+{
+    let mut held = start;
+    let mut rest = text;
+    while held.digits < 10000000000 {
+        let Some(v) = first(rest) else {
+            break;
+        };
+        held = longer(held, 8, v);
+        rest = &rest[8..];
+    }
+    Run { held, rest }
+}
+
+// What is kept with all of a text's end, if that is eight digits at most and all are kept.
+fn ending(text: &[u8], end: &[u8], start: Held) -> Option<Held>
+    requires { Ends text.now end.now }
+    ensures { IfSome result (Goes end.now start []) }
+{
+    let n = end.len();
+    if n == 0 || 8 < n || ten_to(18 - n) <= start.digits {
+        return None;
+    }
+    Some(longer(start, n, last(text, n)?))
+}
+
+// The digits at the head of a text's end: eight at a time, those at the end, and what is left one by one.
+pub fn decimals<'a>(text: &[u8], end: &'a [u8], start: Held) -> Run<'a>
+    requires { Ends text.now end.now × (start.dropped + length end.now ≤ 64) }
+    ensures { Reaches end.now start result.rest.now result.held }
+{
+    let front = eights(end, start);
+    match ending(text, front.rest, front.held) {
+        Some(held) => Run { held, rest: &[] },
+        None => digits(front.rest, front.held),
+    }
 }

@@ -1,68 +1,37 @@
-// What stands at a place of a text: a digit, a byte, a sign or a word.
-ghost use Rattle.std.specs.Prelude.{◌≡◌, ◌≤◌, [], ◌∷◌, length, drop};
-ghost use Rattle.rules.specs.Reading.{same};
+// What stands at the head of a text: a digit or a sign.
+ghost use Rattle.std.specs.Prelude.{◌≡◌};
 ghost use Rattle.scan.specs.Signs.{Signs};
-ghost use Rattle.scan.specs.Heads.{starts, begins};
+ghost use Rattle.scan.specs.Heads.{starts};
 
-use crate::digits;
-
-// A sign, and the place behind it.
+// A sign, and the text behind it.
 #[derive(Clone, Copy)]
-pub struct Signed {
+pub struct Signed<'a> {
     pub negative: bool,
-    pub from: usize,
+    pub rest: &'a [u8],
 }
 
-// Whether the text from a place on begins with a digit.
-pub fn starts_at(s: &[u8], at: usize) -> bool
-    ensures { result ≡ starts (drop at s.now) }
+// Whether a text begins with a digit.
+pub fn starts(text: &[u8]) -> bool
+    ensures { result ≡ starts text.now }
 {
-    if s.len() <= at {
-        return false;
+    match text {
+        [b, ..] => b.is_ascii_digit(),
+        [] => false,
     }
-    digits::is_digit(s[at])
 }
 
-// Whether the text from a place on begins with the byte b.
-pub fn begins_at(s: &[u8], at: usize, b: u8) -> bool
-    ensures { result ≡ begins b (drop at s.now) }
+// The sign at the head of a text.
+pub fn sign(text: &[u8]) -> Signed<'_>
+    ensures { Signs text.now result.negative result.rest.now }
 {
-    if s.len() <= at {
-        return false;
-    }
-    s[at] == b
-}
-
-// The sign at a place of a text.
-pub fn sign(s: &[u8], at: usize) -> Signed
-    requires { at ≤ length s.now }
-    ensures { Signs s.now at result }
-{
-    if begins_at(s, at, b'-') {
-        return Signed {
+    match text {
+        [b'-', rest @ ..] => Signed {
             negative: true,
-            from: at + 1,
-        };
+            rest,
+        },
+        _ => Signed {
+            negative: false,
+            rest: text,
+        },
     }
-    Signed {
-        negative: false,
-        from: at,
-    }
-}
-
-// Whether a text from a place on is a word of three letters.
-pub fn is_word(s: &[u8], from: usize, a: u8, b: u8, c: u8) -> bool
-    requires { from ≤ length s.now }
-    ensures { result ≡ same (drop from s.now) (a ∷ b ∷ c ∷ []) }
-{
-    if s.len() - from != 3 {
-        return false;
-    }
-    if s[from] != a {
-        return false;
-    }
-    if s[from + 1] != b {
-        return false;
-    }
-    s[from + 2] == c
 }

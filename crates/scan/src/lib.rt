@@ -1,7 +1,7 @@
 // From the bytes of a text to its sign, its first digits and its power of ten.
 #![tactic(auto)]
 
-ghost use Rattle.std.specs.Prelude.{◌≡◌, ℕ, ◌<◌, ◌≤◌, true, false, length, drop};
+ghost use Rattle.std.specs.Prelude.{◌≡◌, ℕ, ◌<◌, ◌≤◌, true, false, length};
 ghost use Rattle.rules.specs.Reading.{unsigned, decimals_more};
 ghost use Rattle.scan.specs.Mantissa.{mantissa};
 ghost use Rattle.scan.specs.Signs.{Signs};
@@ -13,91 +13,76 @@ mod digits;
 mod heads;
 mod power;
 
+pub use digits::Held;
 use digits::Run;
 use heads::Signed;
 
-// A number: its sign, its first 19 digits at most, how many follow that are not kept, whether one of those is not 0,
-// and the power of ten of the last digit that is kept, 10,100 added.
-#[derive(Clone, Copy)]
+// A number: its sign, what is kept of its digits, and the power of ten of the last digit that is kept, 10,100 added.
+#[derive(Clone, Copy, PartialEq, Eq, Debug)]
 pub struct Decimal {
     pub negative: bool,
-    pub digits: u64,
-    pub dropped: u32,
-    pub more: bool,
+    pub held: Held,
     pub place: u32,
 }
 
 // What a text says.
-#[derive(Clone, Copy)]
+#[derive(Clone, Copy, PartialEq, Eq, Debug)]
 pub enum Scanned {
-    Refused,
     NotANumber,
     Infinite(bool),
     Number(Decimal),
 }
 
-// The number whose digits end at a place, n of them behind the point.
-fn finished(s: &[u8], run: Run, n: usize, negative: bool) -> Scanned
-    requires { (run.at ≤ length s.now) × (starts (drop run.at s.now) ≡ false) × (run.held.dropped ≤ 64) × (n ≤ 64) }
-    ensures { (a : ℕ) → Keeps a run.held →
-        Tells (decimals_more a n (drop run.at s.now)) (mantissa a (drop run.at s.now)) negative result }
+// The number whose digits end before the rest of a text, n of them behind the point.
+fn finished(run: Run<'_>, n: usize, negative: bool) -> Option<Decimal>
+    requires { (starts run.rest.now ≡ false) × (run.held.dropped ≤ 64) × (n ≤ 64) }
+    ensures { (a : ℕ) → Keeps a run.entry.held →
+        Tells (decimals_more a n run.entry.rest.now) (mantissa a run.entry.rest.now) negative result }
 {
-    let power = power::raised(s, run.at);
-    if power == 0 {
-        return Scanned::Refused;
-    }
-    let held = run.held;
-    let place = power + 100 + held.dropped - n as u32;
-    Scanned::Number(Decimal {
+    let power = power::raised(run.rest)?;
+    Some(Decimal {
         negative,
-        digits: held.digits,
-        dropped: held.dropped,
-        more: held.more,
-        place,
+        held: run.held,
+        place: power + 100 + run.held.dropped - n as u32,
     })
 }
 
-// The number that begins with a digit at a place.
-fn number(s: &[u8], from: usize, negative: bool) -> Scanned
-    requires { (from ≤ length s.now) × (length s.now ≤ 64) × (starts (drop from s.now) ≡ true) }
-    ensures { Tells (unsigned (drop from s.now)) (mantissa 0 (drop from s.now)) negative result }
+// The number of a text that begins with a digit behind its sign.
+fn number(text: &[u8], x: Signed<'_>) -> Option<Decimal>
+    requires { Signs text.now x.negative x.rest.now × (length text.now ≤ 64) × (starts x.rest.now ≡ true) }
+    ensures { Tells (unsigned x.entry.rest.now) (mantissa 0 x.entry.rest.now) x.entry.negative result }
 {
-    let whole = digits::whole(s, from);
-    let dot = whole.at;
-    if !heads::begins_at(s, dot, b'.') {
-        return finished(s, whole, 0, negative);
-    }
-    let all = digits::decimals(s, dot + 1, whole.held);
-    let n = all.at - (dot + 1);
+    let whole = digits::whole(x.rest);
+    let [b'.', behind @ ..] = whole.rest else {
+        return finished(whole, 0, x.negative);
+    };
+    let all = digits::decimals(text, behind, whole.held);
+    let n = behind.len() - all.rest.len();
     if n == 0 {
-        return Scanned::Refused;
+        return None;
     }
-    finished(s, all, n, negative)
+    finished(all, n, x.negative)
 }
 
-// The text that is no number: a word, or refused.
-fn word(text: &[u8], x: Signed) -> Scanned
-    requires { Signs text.now 0 x × (starts (drop x.from text.now) ≡ false) }
+// What a text says that is no number: a word, or nothing.
+fn word(text: &[u8], x: Signed<'_>) -> Option<Scanned>
+    requires { Signs text.now x.negative x.rest.now × (starts x.rest.now ≡ false) }
     ensures { Scans text.now result }
 {
-    if heads::is_word(text, 0, b'N', b'a', b'N') {
-        return Scanned::NotANumber;
+    if text == b"NaN".as_slice() {
+        return Some(Scanned::NotANumber);
     }
-    if heads::is_word(text, x.from, b'i', b'n', b'f') {
-        return Scanned::Infinite(x.negative);
-    }
-    Scanned::Refused
+    (x.rest == b"inf".as_slice()).then_some(Scanned::Infinite(x.negative))
 }
 
 // Reads a text as far as its digits.
-pub fn scan(text: &[u8]) -> Scanned
-    requires { (0 < length text.now) × (length text.now ≤ 64) }
+pub fn scan(text: &[u8]) -> Option<Scanned>
+    requires { length text.now ≤ 64 }
     ensures { Scans text.now result }
 {
-    let x = heads::sign(text, 0);
-    let from = x.from;
-    if !heads::starts_at(text, from) {
+    let x = heads::sign(text);
+    if !heads::starts(x.rest) {
         return word(text, x);
     }
-    number(text, from, x.negative)
+    Some(Scanned::Number(number(text, x)?))
 }

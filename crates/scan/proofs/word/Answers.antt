@@ -1,15 +1,13 @@
 -- `scan::word` meets its contract. Assumes nothing.
-use Rattle.std.proofs.Common.{sym, ◌∙◌}
-use Rattle.scan.proofs.Words.{reads_nan, reads_infinite, reads_nothing}
+use Rattle.std.proofs.Common.{◌∙◌}
+use Rattle.scan.proofs.Words.{nan, inf, compared, reads_nan, reads_word}
 use Rattle.scan.proofs.word.Goals as goal
 
-pub returns-then-is_word : goal.returns-then-is_word
-returns-then-is_word c = reads_nan _ (sym c.is_word.ensures ∙ c.if-is_word.true)
-
-pub returns-then-is_word-2 : goal.returns-then-is_word-2
-returns-then-is_word-2 c =
-    reads_infinite c.requires.0 (sym c.is_word.ensures ∙ c.if-is_word.false) (sym c.is_word-2.ensures ∙ c.if-is_word-2.true)
+pub returns-then-eq : goal.returns-then-eq
+returns-then-eq c = reads_nan c.args.text.now (compared c.args.text.now nan _ _ c.as_slice.ensures c.eq.ensures ∙ c.if-eq.true)
 
 pub returns : goal.returns
 returns c =
-    reads_nothing c.requires.0 (sym c.is_word.ensures ∙ c.if-is_word.false) (sym c.is_word-2.ensures ∙ c.if-is_word-2.false) c.requires.1
+    let other = compared c.args.text.now nan _ _ c.as_slice.ensures c.eq.ensures ∙ c.if-eq.false in
+    rw c.then_some.ensures
+    (reads_word c.requires.0 other c.eq-2.result (compared c.args.x.rest.now inf _ _ c.as_slice-2.ensures c.eq-2.ensures) c.requires.1)

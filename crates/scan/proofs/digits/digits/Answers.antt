@@ -1,22 +1,13 @@
--- `scan::digits::digits` meets its contract: each turn goes over one digit. Assumes nothing.
-use Rattle.std.proofs.Common.{◌∙◌, arith}
-use Rattle.scan.proofs.Passing.{one, starts_at, ends_at}
-use Rattle.scan.proofs.Going.{stays, then, over}
+-- `scan::digits::digits` meets its contract: digits that are kept, then digits that are not. Assumes nothing.
+use Rattle.std.proofs.Common.{arith}
+use Rattle.scan.proofs.Going.{then}
 use Rattle.scan.proofs.digits.digits.Goals as goal
 
-pub loop-i-init : goal.loop-i-init
-loop-i-init c = stays c.requires.0
+pub returns-then-front-lt-ROOM : goal.returns-then-front-lt-ROOM
+returns-then-front-lt-ROOM c = record { goes = c.kept-front.ensures.goes; ends = c.kept-front.ensures.ends (omega arith) }
 
-pub returns-then-digit-gt9 : goal.returns-then-digit-gt9
-returns-then-digit-gt9 c =
-    let none = c.value-digit.ensures.0 c.if-digit-gt9.true in
-    record { goes = c.loop-i.invariant; ends = starts_at c.args.s.now c.loop-i.i (omega arith) ∙ none }
-
-pub loop-i-preserved : goal.loop-i-preserved
-loop-i-preserved c =
-    let digit = c.value-digit.ensures.1 (omega arith) in
-    then c.loop-i.invariant (over 1 (omega arith) (one _ _ _ (omega arith) digit.0 digit.1) c.push-held.ensures.0 c.push-held.ensures.1)
+pub dropped-requires : goal.dropped-requires
+dropped-requires c = (omega arith, omega (arith, c.kept-front.ensures.goes.few))
 
 pub returns : goal.returns
-returns c =
-    record { goes = c.loop-i.invariant; ends = ends_at c.args.s.now c.loop-i.i (omega arith) }
+returns c = record { goes = then c.kept-front.ensures.goes c.dropped.ensures.goes; ends = c.dropped.ensures.ends }

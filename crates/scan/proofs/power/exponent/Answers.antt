@@ -1,16 +1,15 @@
 -- `scan::power::exponent` meets its contract: the sign says which way the digits raise. Assumes nothing.
-use Rattle.std.proofs.Common.{◌<◌, arith}
-use Rattle.scan.proofs.Signing.{no_exponent, signed-exponent}
-use Rattle.scan.proofs.Raising.{refuses, shifts}
+use Rattle.std.proofs.Common.{◌∙◌}
+use Rattle.scan.proofs.Signing.{behind}
+use Rattle.scan.proofs.Raising.{shifts}
 use Rattle.scan.proofs.power.exponent.Goals as goal
 
-pub returns-then-e-eq10000 : goal.returns-then-e-eq10000
-returns-then-e-eq10000 c =
-    refuses (λ a n. no_exponent c.sign-x.ensures c.exponent_digits-e.ensures a n c.if-e-eq10000.true)
+pub returns-in_err-exponent_digits : goal.returns-in_err-exponent_digits
+returns-in_err-exponent_digits c =
+    rw c.from_residual.ensures (λ a n. behind c.sign-x.ensures a n ∙ c.in_err-exponent_digits.ensures a n c.sign-x.result.negative)
 
 pub returns : goal.returns
 returns c =
-    let digits = c.exponent_digits-e in
-    let less : digits.result < 10000 = omega (arith, digits.ensures.few, c.if-e-eq10000.false) in
-    shifts digits.result c.shifted.result c.sign-x.result.negative less c.shifted.ensures
-    (λ a n. signed-exponent c.sign-x.ensures digits.ensures a n less)
+    let counts = c.in_ok-exponent_digits.ensures in
+    shifts c.in_ok-exponent_digits.field-0 c.shifted.result c.sign-x.result.negative counts.0 c.shifted.ensures
+    (λ a n. behind c.sign-x.ensures a n ∙ counts.1 a n c.sign-x.result.negative)

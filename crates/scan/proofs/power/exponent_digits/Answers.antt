@@ -1,28 +1,30 @@
 -- `scan::power::exponent_digits` meets its contract: each turn counts one digit. Assumes nothing.
-use Rattle.std.proofs.Common.{arith, length-drop}
-use Rattle.scan.proofs.Exponents.{begun, continued, broken, complete, below_limit, too_many, too_few, none_counted}
+use Rattle.std.proofs.Common.{sym, ◌∙◌, arith, eqb-true}
+use Rattle.std.proofs.lemmas.Bool.Decides.{nat_tests}
+use Rattle.scan.proofs.Exponents.{begun, continued, broken, complete, below_limit, too_many, too_few}
 use Rattle.scan.proofs.power.exponent_digits.Goals as goal
+use Rattle.scan.proofs.power.exponent_digits.Goals.{then-is_empty-via-then-is_empty, then-is_empty-via-else-is_empty+then-text-gt4}
 
-pub returns-then-count-eq0 : goal.returns-then-count-eq0
-returns-then-count-eq0 c = none_counted (λ a n below. too_few a n below _ (simp length-drop (omega arith)))
+pub returns-then-is_empty : goal.returns-then-is_empty
+returns-then-is_empty c =
+    λ a n below.
+    elim c.then-is_empty.branch [
+      | then-is_empty-via-then-is_empty w ↦ too_few a n below c.args.text.now (eqb-true _ 0 (sym c.is_empty.ensures ∙ w.if-is_empty.true))
+      | then-is_empty-via-else-is_empty+then-text-gt4 w ↦ too_many a n below c.args.text.now (omega arith)
+    ]
 
-pub returns-then-count-gt4 : goal.returns-then-count-gt4
-returns-then-count-gt4 c = none_counted (λ a n below. too_many a n below _ (simp length-drop (omega arith)))
+pub loop-b-init : goal.loop-b-init
+loop-b-init c = begun c.args.text.now (grind (arith, nat_tests))
 
-pub loop-i-init : goal.loop-i-init
-loop-i-init c = begun _ _ (omega arith)
+pub returns-in_err-e : goal.returns-in_err-e
+returns-in_err-e c = rw c.from_residual.ensures (broken c.loop-b.invariant (omega arith) c.in_err-e.ensures)
 
-pub returns-then-digit-gt9 : goal.returns-then-digit-gt9
-returns-then-digit-gt9 c =
-    none_counted (broken c.loop-i.invariant (omega arith) (c.value-digit.ensures.0 c.if-digit-gt9.true))
-
-pub loop-i-preserved : goal.loop-i-preserved
-loop-i-preserved c =
-    let digit = c.value-digit.ensures.1 (omega arith) in
-    continued c.loop-i.invariant _ (omega arith) (omega arith) digit.0 digit.1
+pub loop-b-preserved : goal.loop-b-preserved
+loop-b-preserved c =
+    let digit = c.in_ok-e.ensures in
+    continued c.loop-b.invariant _ (omega arith) (omega arith) digit.0 digit.1
 
 pub returns : goal.returns
 returns c =
-    let counted = c.loop-i.invariant in
-    let less = below_limit counted (omega arith) in
-    record { few = omega arith; fails = λ e. absurd (omega arith); holds = λ h. complete counted (omega arith) }
+    let counted = c.loop-b.invariant in
+    (below_limit counted (omega arith), complete counted (omega arith))

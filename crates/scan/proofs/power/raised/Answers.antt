@@ -1,17 +1,14 @@
 -- `scan::power::raised` meets its contract. Assumes nothing.
-use Rattle.std.proofs.Common.{◌<◌, length, arith}
-use Rattle.scan.proofs.Raising.{refuses, leaves, same_power, decimals_end, mantissa_end, decimals_other, decimals_exponent, mantissa-exponent}
+use Rattle.std.proofs.Common.{arith}
+use Rattle.std.proofs.lemmas.Bool.Decides.{nat_tests}
+use Rattle.scan.proofs.Raising.{raised_end, raised_exponent, raised_other}
 use Rattle.scan.proofs.power.raised.Goals as goal
 
-pub returns-then-s-at : goal.returns-then-s-at
-returns-then-s-at c = (leaves (decimals_end _ _ c.if-s-at.true), λ some. mantissa_end _ _ c.if-s-at.true)
+pub returns-in-empty : goal.returns-in-empty
+returns-in-empty c = raised_end c.args.text.now c.in-empty.len_below
 
-pub returns-then-s-at-ne101 : goal.returns-then-s-at-ne101
-returns-then-s-at-ne101 c =
-    (refuses (decimals_other c.args.s.now c.args.at (omega arith) c.requires.1 c.if-s-at-ne101.true), λ some. absurd (omega arith))
+pub returns-in-101 : goal.returns-in-101
+returns-in-101 c = raised_exponent c.args.text.now c.in-101.len_at_least (omega arith) c.exponent.result c.exponent.ensures
 
-pub returns : goal.returns
-returns c =
-    let inside : c.args.at < length c.args.s.now = omega arith in
-    let is = c.if-s-at-ne101.false in
-    (same_power (decimals_exponent _ _ inside c.requires.1 is) c.exponent.ensures, λ some. mantissa-exponent _ _ inside c.requires.1 is)
+pub returns-in_default : goal.returns-in_default
+returns-in_default c = (raised_other c.args.text.now c.in_default.len_at_least (λ is. grind (arith, nat_tests)) c.requires, tt)
