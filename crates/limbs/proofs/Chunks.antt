@@ -1,99 +1,58 @@
 -- Digits read nine at a time. Assumes nothing.
-use mathlib.Core.Bool.{Bool, true, false, not}
-use mathlib.Core.Path.{◌≡◌, ap, ◌∙◌}
-use mathlib.Core.List.{List, [], ◌∷◌}
-use Prim.Native.Nat.{ℕ, suc, ◌+◌, ◌-◌, ◌*◌, ◌≤◌, ◌<◌}
-use borrow.Author.Tests.{eqb-false}
-use native.Mathlib.Omega.{arith}
-use lib.Dec.{T, ltb, eqb, ltb→lt, nltb→le, eqb→eq}
-use lib.ListN.{get_or, length, drop, drop_of_length-le}
-use lib.Seq.{drop-cons}
-use Rattle.laws.proofs.Branches.{is_false}
+use Rattle.std.proofs.Common.{◌≡◌, ℕ, ◌+◌, ◌-◌, ◌*◌, ◌≤◌, ◌<◌, List, [], ◌∷◌, length, get_or, take, drop, refl, ap, ◌∙◌, arith, length-drop}
+use Rattle.std.proofs.lemmas.List.{take_rest}
 use Rattle.scan.specs.Mantissa.{mantissa}
-use Rattle.limbs.specs.Chunked.{Goes, Ends, full, Chunked}
+use Rattle.scan.proofs.Signing.{behind_byte}
+use Rattle.limbs.specs.Chunked.{full, Chunked}
 use Rattle.limbs.proofs.Digits.{digit, at_point, past_end}
 
 -- At the text's end.
-pub at_end : (text : List ℕ) (i : ℕ) → length text ≤ i → (a : ℕ) → mantissa a (drop i text) ≡ a
+pub at_end : (t : List ℕ) → length t < 1 → (a : ℕ) → mantissa a t ≡ a
 unfolding mantissa
-at_end text i all a =
-    let none : drop i text ≡ [] = drop_of_length-le text all in
-    rw none
+at_end [] none a = refl
+at_end (b ∷ bs) some a = absurd (omega arith)
 
-module _ (text : List ℕ) (i : ℕ) (more : i < length text) where
-  abbrev here : ℕ
-  here = get_or text i 0
+-- At a byte that is neither a digit nor a point.
+pub at_other : (t : List ℕ) → (48 ≤ get_or t 0 0 → get_or t 0 0 ≤ 57 → ⊥) → (get_or t 0 0 ≡ 46 → ⊥) → (a : ℕ) → mantissa a t ≡ a
+unfolding mantissa
+at_other [] no_digit no_point a = refl
+at_other (b ∷ bs) no_digit no_point a = past_end a b bs no_digit no_point
 
-  -- The byte at the place, and those behind it.
-  next_byte : (a : ℕ) → mantissa a (drop i text) ≡ mantissa a (here ∷ drop (suc i) text)
-  next_byte a = rw (drop-cons text i 0 more)
-
-  -- Where it is neither a digit nor a point.
-  other : (48 ≤ here → here ≤ 57 → ⊥) → (here ≡ 46 → ⊥) → (a : ℕ) → mantissa a (drop i text) ≡ a
-  other no_digit no_point a = next_byte a ∙ past_end a here (drop (suc i) text) no_digit no_point
-
-  -- At a byte below the digits the point decides, and at any other whether it is above them.
-  pub below_digits : here < 48 → Ends text i (not (eqb here 46))
-  below_digits below = told (eqb here 46) (eqb→eq here 46) (λ t. eqb-false here 46 (is_false (eqb here 46) t))
-    where
-      told : (t : Bool) → (T t → here ≡ 46) → (T (not t) → here ≡ 46 → ⊥) → Ends text i (not t)
-      told true yes-side no-side = record { more = more; least = λ no_point. absurd (no_point (yes-side tt)); most = omega arith }
-      told false yes-side no-side = other (λ least most. omega arith) (no-side tt)
-
-  pub from_digits : 48 ≤ here → Ends text i (ltb 57 here)
-  from_digits least = told (ltb 57 here) (ltb→lt 57 here) (nltb→le 57 here)
-    where
-      told : (t : Bool) → (T t → 57 < here) → (T (not t) → here ≤ 57) → Ends text i t
-      told true above inside = other (λ l most. omega (arith, above tt)) (λ e. omega arith)
-      told false above inside = record { more = more; least = λ no_point. least; most = inside tt }
-
--- The digits between two places, as far as they are read.
-pub record Part (text : List ℕ) (from number power i : ℕ) : Type 0 where
-  pub within : i ≤ length text
-  pub order : from ≤ i
-  pub ahead : 1 < power → from < i
+-- The digits between the text t and its rest u, as far as they are read.
+pub record Part (t : List ℕ) (number power : ℕ) (u : List ℕ) : Type 0 where
+  pub order : length u ≤ length t
+  pub ahead : 1 < power → length u < length t
   pub small : number < power
-  pub reads : (a : ℕ) → mantissa a (drop from text) ≡ mantissa (a * power + number) (drop i text)
+  pub reads : (a : ℕ) → mantissa a t ≡ mantissa (a * power + number) u
 
--- At first none.
-pub begin : (text : List ℕ) (from : ℕ) → from ≤ length text → Part text from 0 1 from
-begin text from within =
-    record {
-      within = within;
-      order = omega arith;
-      ahead = λ l. absurd (omega arith);
-      small = omega arith;
-      reads = λ a. ap (λ (n : ℕ). mantissa n (drop from text)) (omega arith);
-    }
-
-module _ {text : List ℕ} {from number power i : ℕ} (p : Part text from number power i) (g : Goes text i) where
+module _ {t : List ℕ} {number power : ℕ} {u : List ℕ} (p : Part t number power u) (more : 0 < length u) where
   -- One digit more.
-  pub one_digit : (get_or text i 0 ≡ 46 → ⊥) → Part text from (number * 10 + (get_or text i 0 - 48)) (power * 10) (suc i)
-  one_digit no_point =
+  pub one_digit : 48 ≤ get_or u 0 0 → get_or u 0 0 ≤ 57 → Part t (number * 10 + (get_or u 0 0 - 48)) (power * 10) (take (length u - 1) (drop 1 u))
+  one_digit least most =
+      let b = get_or u 0 0 in
+      let rest = take (length u - 1) (drop 1 u) in
+      let shorter : length rest ≡ length u - 1 = ap length (take_rest u 1) ∙ length-drop 1 u in
       record {
-        within = g.more;
         order = omega (arith, p.order);
         ahead = λ _. omega (arith, p.order);
-        small = omega (arith, p.small, g.most);
+        small = omega (arith, p.small);
         reads = λ a.
-            p.reads a ∙ next_byte text i g.more (a * power + number)
-            ∙ digit (a * power + number) (get_or text i 0) (drop (suc i) text) (g.least no_point) g.most
-            ∙ ap (λ (n : ℕ). mantissa n (drop (suc i) text)) (omega arith);
+            p.reads a ∙ ap (mantissa (a * power + number)) (behind_byte u b more refl) ∙ digit (a * power + number) b rest least most
+            ∙ ap (λ (n : ℕ). mantissa n rest) (omega arith);
       }
 
   -- A point more.
-  pub one_point : get_or text i 0 ≡ 46 → Part text from number power (suc i)
+  pub one_point : get_or u 0 0 ≡ 46 → Part t number power (take (length u - 1) (drop 1 u))
   one_point is =
+      let rest = take (length u - 1) (drop 1 u) in
+      let shorter : length rest ≡ length u - 1 = ap length (take_rest u 1) ∙ length-drop 1 u in
       record {
-        within = g.more;
         order = omega (arith, p.order);
         ahead = λ _. omega (arith, p.order);
         small = p.small;
-        reads = λ a.
-            p.reads a ∙ next_byte text i g.more (a * power + number) ∙ at_point (a * power + number) (get_or text i 0) (drop (suc i) text) is;
+        reads = λ a. p.reads a ∙ ap (mantissa (a * power + number)) (behind_byte u 46 more is) ∙ at_point (a * power + number) 46 rest refl;
       }
 
 -- A part is read, where it is full or the digits end.
-pub chunked : {text : List ℕ} {from number power i : ℕ} → Part text from number power i →
-    (power < full → (a : ℕ) → mantissa a (drop i text) ≡ a) → Chunked text from number power i
-chunked p stops = record { within = p.within; reads = p.reads; ahead = λ l. p.ahead (omega arith); stops = stops }
+pub chunked : {t : List ℕ} {number power : ℕ} {u : List ℕ} → Part t number power u → (power < full → (a : ℕ) → mantissa a u ≡ a) → Chunked t number power u
+chunked p stops = record { reads = p.reads; ahead = λ l. p.ahead (omega arith); stops = stops }

@@ -5,7 +5,7 @@ use Prim.Native.Nat.{ℕ, suc, ◌+◌, ◌-◌, ◌*◌, ◌^◌, ◌≤◌, �
 use native.Mathlib.Nat.{mul-suc, mul-le-mul_left, mul-le-mul_right}
 use native.Mathlib.Omega.{arith}
 use lib.Dec.{leb, ltb, eqb, le→leb, leb→le, lt→ltb, ltb→lt, eqb→eq}
-use lib.ListN.{length, drop, length-drop}
+use lib.ListN.{length}
 use lib.Pow.{pow-add, pow_pos}
 use Rattle.laws.proofs.Branches.{either, taken, and_both, and_left, and_right}
 use Rattle.rules.specs.Bytes.{point}
@@ -54,6 +54,5 @@ digits_bits a (b ∷ bs) =
     either (λ (n : ℕ). n < suc a * (w * 16)) (eqb b point) (λ _. omega (arith, digits_bits a bs))
     (λ _. omega (arith, mul-le-mul_left (suc a) some))))
 
--- Digits from a place on take four bits for each byte.
-pub digits_width : (t : List ℕ) (from : ℕ) → mantissa 0 (drop from t) < 2 ^ (4 * (length t - from))
-digits_width t from = rw (← length-drop from t) (omega (arith, digits_bits 0 (drop from t)))
+pub digits_width : (t : List ℕ) → mantissa 0 t < 2 ^ (4 * length t)
+digits_width t = omega (arith, digits_bits 0 t)

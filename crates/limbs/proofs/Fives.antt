@@ -1,5 +1,5 @@
 -- A number times a power of five, some fives at a time. Assumes nothing.
-use mathlib.Core.Path.{◌≡◌, refl, ap, ◌∙◌}
+use mathlib.Core.Path.{◌≡◌, ap, ◌∙◌}
 use mathlib.Core.List.{List}
 use Prim.Native.Nat.{ℕ, ◌+◌, ◌-◌, ◌*◌, ◌^◌, ◌≤◌, ◌<◌}
 use native.Mathlib.Nat.{mul-le-mul_left, one-le-pow, zero-lt-suc}
@@ -13,10 +13,6 @@ use Rattle.limbs.proofs.Low.{same-room}
 pub record Toward (l : List ℕ) (n : ℕ) (a : List ℕ) (left : ℕ) : Type 0 where
   pub same : length a ≡ length l
   pub product : total a * 5 ^ left ≡ total l * 5 ^ n
-
--- At first all are left.
-pub begin : (l : List ℕ) (n : ℕ) → Toward l n l n
-begin l n = record { same = refl; product = refl }
 
 module _ (l : List ℕ) (n : ℕ) (a : List ℕ) (left : ℕ) (t : Toward l n a left) (k : ℕ) (some : k ≤ left) where
   -- Some of the fives that are left, and the others.

@@ -6,6 +6,11 @@ use Prim.Native.Nat.{ℕ, zero, suc, ◌-◌, ◌*◌, ◌^◌, ◌≤◌, ◌<�
 use native.Mathlib.Nat.{mul-le-mul_right, suc-mul, eq-or-lt_of_le, le_of_suc-le-suc}
 use native.Mathlib.Omega.{arith}
 use lib.ListN.{get_or, length}
+use Rattle.std.specs.declared.cmp.Ordering.{Ordering}
+use Rattle.std.specs.declared.cmp.Ordering.TheVariants.{Less, Equal, Greater}
+use Rattle.std.specs.Ordering.{MatchOrdering, nat_cmp}
+use Rattle.std.proofs.lemmas.Cmp.{ranked}
+use Rattle.limbs.specs.Stands.{Stands}
 use Rattle.limbs.specs.Total.{low, total}
 use Rattle.limbs.proofs.Low.{low-suc, low_same, low_lt}
 
@@ -13,19 +18,6 @@ use Rattle.limbs.proofs.Low.{low-suc, low_same, low_lt}
 pub record Alike (a b : List ℕ) (i : ℕ) : Type 0 where
   pub within : i ≤ length a
   pub above : (k : ℕ) → i ≤ k → k < length a → get_or a k 0 ≡ get_or b k 0
-
--- At first none is looked at.
-pub begin : (a b : List ℕ) → Alike a b (length a)
-begin a b = record { within = omega arith; above = λ k up less. absurd (omega arith) }
-
--- One limb more.
-pub step : (a b : List ℕ) (i : ℕ) → Alike a b i → get_or a (i - 1) 0 ≡ get_or b (i - 1) 0 → Alike a b (i - 1)
-step a b i same here =
-    record {
-      within = omega (arith, same.within);
-      above = λ k up less.
-          ⊎_elim (λ e. subst (λ (j : ℕ). get_or a j 0 ≡ get_or b j 0) e here) (λ higher. same.above k (omega arith) less) (eq-or-lt_of_le up);
-    }
 
 -- The other way round.
 pub turned : (a b : List ℕ) (i : ℕ) → length a ≡ length b → Alike a b i → Alike b a i
@@ -62,6 +54,18 @@ unfolding total
 less a b i limbs e some same here =
     subst (λ (n : ℕ). low a (length a) < low b n) e
     (less_above a b (i - 1) limbs here (length a) (omega (arith, same.within)) (λ k up more. same.above k (omega arith) more))
+
+-- The highest limbs that differ decide.
+pub decided : (a b : List ℕ) (i : ℕ) → ((k : ℕ) → get_or a k 0 < 2 ^ 32) → ((k : ℕ) → get_or b k 0 < 2 ^ 32) → length a ≡ length b → 0 < i → Alike a b i →
+    (get_or a (i - 1) 0 ≡ get_or b (i - 1) 0 → ⊥) → (o : Ordering) → o ≡ nat_cmp (get_or a (i - 1) 0) (get_or b (i - 1) 0) → Stands o (total a) (total b)
+decided a b i firsts seconds e some same other o is = by o (ranked (get_or a (i - 1) 0) (get_or b (i - 1) 0) o is)
+  where
+    by : (r : Ordering) →
+        MatchOrdering r (get_or a (i - 1) 0 < get_or b (i - 1) 0) (get_or a (i - 1) 0 ≡ get_or b (i - 1) 0) (get_or b (i - 1) 0 < get_or a (i - 1) 0) →
+        Stands r (total a) (total b)
+    by Less here = less a b i firsts e some same here
+    by Equal here = absurd (other here)
+    by Greater here = less b a i seconds (sym e) some (turned a b i e same) here
 
 -- All limbs are the same.
 pub equal : (a b : List ℕ) (i : ℕ) → length a ≡ length b → i ≡ 0 → Alike a b i → total a ≡ total b

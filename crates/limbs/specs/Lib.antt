@@ -1,3 +1,4 @@
 pub mod Total
+pub mod Times
 pub mod Stands
 pub mod Chunked

@@ -1,10 +1,10 @@
 -- How one number stands to another. Assumes nothing.
 use Rattle.std.specs.Prelude.{◌≡◌, ℕ, ◌<◌}
-use Rattle.limbs.specs.declared.Order.{Order}
-use Rattle.limbs.specs.declared.Order.TheVariants.{Below, Equal, Above}
+use Rattle.std.specs.declared.cmp.Ordering.{Ordering}
+use Rattle.std.specs.declared.cmp.Ordering.TheVariants.{Less, Equal, Greater}
 
 -- What an answer says of x and y.
-abbrev pub Stands : Order → ℕ → ℕ → Type 0
-Stands Below x y = x < y
+abbrev pub Stands : Ordering → ℕ → ℕ → Type 0
+Stands Less x y = x < y
 Stands Equal x y = x ≡ y
-Stands Above x y = y < x
+Stands Greater x y = y < x

@@ -1,18 +1,20 @@
 // Whole numbers of many digits, as limbs of 32 bits, the lowest first, and how two of them are ordered.
 #![tactic(auto)]
 
-ghost use Rattle.std.specs.Prelude.{◌≡◌, ◌+◌, ◌-◌, ◌*◌, ◌/◌, ◌^◌, ◌<◌, ◌≤◌, length, drop};
+ghost use Rattle.std.specs.Prelude.{◌≡◌, ◌+◌, ◌-◌, ◌*◌, ◌/◌, ◌^◌, ◌<◌, ◌≤◌, length};
 ghost use Rattle.scan.specs.Mantissa.{mantissa};
 ghost use Rattle.limbs.specs.Total.{total, room, Becomes, Fits, Sides};
+ghost use Rattle.limbs.specs.Times.{times};
 ghost use Rattle.limbs.specs.Stands.{Stands};
-ghost use Rattle.limbs.specs.Chunked.{Ends, Chunked};
+ghost use Rattle.limbs.specs.Chunked.{Chunked};
 
-// How a number stands to another.
-#[derive(Clone, Copy)]
-pub enum Order {
-    Below,
-    Equal,
-    Above,
+use std::cmp::Ordering;
+
+// A power of five and a power of two.
+#[derive(Clone, Copy, PartialEq, Eq, Debug)]
+pub struct Factor {
+    pub fives: u32,
+    pub twos: u32,
 }
 
 // a * m + add, in the place of a.
@@ -20,28 +22,12 @@ fn mul_add(a: &mut [u32], m: u32, add: u32)
     requires { total a.old * m + add < room a.old }
     ensures { Becomes a.old a.new (total a.old * m + add) }
 {
-    let mut carry: u64 = add as u64;
-    let mut i: usize = 0;
-    while i < a.len() {
-        let t = (a[i] as u64) * (m as u64) + carry;
-        a[i] = (t % 4294967296) as u32;
+    let mut carry = u64::from(add);
+    for limb in a.iter_mut() {
+        let t = u64::from(*limb) * u64::from(m) + carry;
+        *limb = (t % 4294967296) as u32;
         carry = t / 4294967296;
-        i += 1;
     }
-}
-
-// 5^n, which fits.
-fn five_power(n: u32) -> u32
-    requires { n < 13 }
-    ensures { result ≡ 5 ^ n }
-{
-    let mut r: u32 = 1;
-    let mut i: u32 = 0;
-    while i < n {
-        r *= 5;
-        i += 1;
-    }
-    r
 }
 
 // a * 5^n, thirteen fives at a time.
@@ -49,22 +35,20 @@ fn times_fives(a: &mut [u32], n: u32)
     requires { total a.old * 5 ^ n < room a.old }
     ensures { Becomes a.old a.new (total a.old * 5 ^ n) }
 {
-    let mut left = n;
-    while 13 <= left {
+    for _ in 0..n / 13 {
         mul_add(a, 1220703125, 0);
-        left -= 13;
     }
-    mul_add(a, five_power(left), 0);
+    mul_add(a, 5u32.pow(n % 13), 0);
 }
 
 // a * 5^fives * 2^twos, of fewer twos than a limb has.
-fn scale(a: &mut [u32], fives: u32, twos: u32)
-    requires twos_bound { twos < 32 }
-    requires product_fits { total a.old * 5 ^ fives * 2 ^ twos < room a.old }
-    ensures { Becomes a.old a.new (total a.old * 5 ^ fives * 2 ^ twos) }
+fn scale(a: &mut [u32], by: Factor)
+    requires twos_bound { by.twos < 32 }
+    requires product_fits { times (total a.old) by < room a.old }
+    ensures { Becomes a.old a.new (times (total a.old) by) }
 {
-    times_fives(a, fives);
-    mul_add(a, 1 << twos, 0);
+    times_fives(a, by.fives);
+    mul_add(a, 1 << by.twos, 0);
 }
 
 // The number m, into limbs that are all 0.
@@ -77,185 +61,141 @@ fn load(a: &mut [u32], m: u64)
     a[1] = (m / 4294967296) as u32;
 }
 
-// Whether a text's digits end before the place i: at the text's end, or at a byte that is neither a digit nor a point.
-fn ends(text: &[u8], i: usize) -> bool
-    requires { i ≤ length text.now }
-    ensures { Ends text.now i result }
-{
-    if text.len() <= i {
-        return true;
-    }
-    let b = text[i];
-    if b < b'0' {
-        return b != b'.';
-    }
-    b'9' < b
-}
-
 // Below this a power of ten takes one more 0 in 32 bits.
 const FULL: u32 = 400000000;
 
-// Some digits of a text as a number, 10 to the power of how many they are, and the place behind them.
+// Some digits as a number, 10 to the power of how many they are, and what is behind them.
 #[derive(Clone, Copy)]
-struct Chunk {
+struct Chunk<'a> {
     number: u32,
     power: u32,
-    next: usize,
+    rest: &'a [u8],
 }
 
-// The digits of a text from a place on, nine at most.
-fn chunk_at(text: &[u8], from: usize) -> Chunk
-    requires { from ≤ length text.now }
-    ensures { Chunked text.now from result.number result.power result.next }
+// The digits at the head of a text, nine at most; a point among them is passed.
+fn next_chunk(digits: &[u8]) -> Chunk<'_>
+    ensures { Chunked digits.now result.number result.power result.rest.now }
 {
     let mut number: u32 = 0;
     let mut power: u32 = 1;
-    let mut next = from;
+    let mut rest = digits;
     while power < FULL {
-        if ends(text, next) {
-            return Chunk {
-                number,
-                power,
-                next,
-            };
+        match rest {
+            [b @ b'0'..=b'9', behind @ ..] => {
+                number = number * 10 + u32::from(b - b'0');
+                power *= 10;
+                rest = behind;
+            }
+            [b'.', behind @ ..] => rest = behind,
+            _ => break,
         }
-        let b = text[next];
-        if b != b'.' {
-            number = number * 10 + (b - b'0') as u32;
-            power *= 10;
-        }
-        next += 1;
     }
     Chunk {
         number,
         power,
-        next,
+        rest,
     }
 }
 
 // The number that a text's digits make, into limbs that are all 0.
-fn load_digits(a: &mut [u32], text: &[u8], from: usize)
-    requires { (total a.old ≡ 0) × (from ≤ length text.now) × (mantissa 0 (drop from text.now) < room a.old) }
-    ensures { Becomes a.old a.new (mantissa 0 (drop from text.now)) }
+fn load_digits(a: &mut [u32], digits: &[u8])
+    requires { (total a.old ≡ 0) × (mantissa 0 digits.now < room a.old) }
+    ensures { Becomes a.old a.new (mantissa 0 digits.now) }
 {
-    let mut i = from;
-    while i < text.len() {
-        let c = chunk_at(text, i);
+    let mut rest = digits;
+    while !rest.is_empty() {
+        let c = next_chunk(rest);
         mul_add(a, c.power, c.number);
         if c.power < FULL {
             return;
         }
-        i = c.next;
+        rest = c.rest;
     }
 }
 
 // How a stands to b, by the highest limb in which they differ.
-fn compare(a: &[u32], b: &[u32]) -> Order
+fn compare(a: &[u32], b: &[u32]) -> Ordering
     requires { length a.now ≡ length b.now }
     ensures { Stands result (total a.now) (total b.now) }
 {
-    let mut i: usize = a.len();
-    while 0 < i {
-        i -= 1;
-        let x = a[i];
-        let y = b[i];
-        if x < y {
-            return Order::Below;
-        }
-        if y < x {
-            return Order::Above;
+    for i in (0..a.len()).rev() {
+        if a[i] != b[i] {
+            return a[i].cmp(&b[i]);
         }
     }
-    Order::Equal
+    Ordering::Equal
 }
 
 // The number that a text's digits make, times 5^fives * 2^twos, into limbs that are all 0.
-fn put_digits(a: &mut [u32], text: &[u8], from: usize, fives: u32, twos: u32)
-    requires { (twos < 32) × (from ≤ length text.now) × Fits a.old (mantissa 0 (drop from text.now)) fives twos }
-    ensures { Becomes a.old a.new (mantissa 0 (drop from text.now) * 5 ^ fives * 2 ^ twos) }
+fn put_digits(a: &mut [u32], digits: &[u8], by: Factor)
+    requires { (by.twos < 32) × Fits a.old (mantissa 0 digits.now) by.fives by.twos }
+    ensures { Becomes a.old a.new (times (mantissa 0 digits.now) by) }
 {
-    load_digits(a, text, from);
-    scale(a, fives, twos);
+    load_digits(a, digits);
+    scale(a, by);
 }
 
 // The number m, times 5^fives * 2^twos, into limbs that are all 0.
-fn put_number(a: &mut [u32], m: u64, fives: u32, twos: u32)
-    requires { (twos < 32) × (2 ≤ length a.old) × Fits a.old m fives twos }
-    ensures { Becomes a.old a.new (m * 5 ^ fives * 2 ^ twos) }
+fn put_number(a: &mut [u32], m: u64, by: Factor)
+    requires { (by.twos < 32) × (2 ≤ length a.old) × Fits a.old m by.fives by.twos }
+    ensures { Becomes a.old a.new (times m by) }
 {
     load(a, m);
-    scale(a, fives, twos);
+    scale(a, by);
 }
 
 // How the products stand, each in limbs that are all 0. Of the twos whole limbs are left out below, and stay 0.
 fn settled(
     a: &mut [u32],
     b: &mut [u32],
-    text: &[u8],
-    from: usize,
-    fives: u32,
-    up: u32,
+    digits: &[u8],
+    up: Factor,
     m: u64,
-    mfives: u32,
-    down: u32,
-) -> Order
-    requires { (from ≤ length text.now) × Sides a.old b.old (mantissa 0 (drop from text.now)) fives up m mfives down }
-    ensures { Stands result (mantissa 0 (drop from text.now) * 5 ^ fives * 2 ^ up) (m * 5 ^ mfives * 2 ^ down) }
+    down: Factor,
+) -> Ordering
+    requires { Sides a.old b.old (mantissa 0 digits.now) up.fives up.twos m down.fives down.twos }
+    ensures { Stands result (times (mantissa 0 digits.now) up) (times m down) }
 {
-    let first = (up / 32) as usize;
-    let second = (down / 32) as usize;
-    put_digits(&mut a[first..], text, from, fives, up % 32);
-    put_number(&mut b[second..], m, mfives, down % 32);
+    let first = (up.twos / 32) as usize;
+    let second = (down.twos / 32) as usize;
+    let part = Factor {
+        twos: up.twos % 32,
+        ..up
+    };
+    put_digits(&mut a[first..], digits, part);
+    let part = Factor {
+        twos: down.twos % 32,
+        ..down
+    };
+    put_number(&mut b[second..], m, part);
     compare(a, b)
 }
 
-// By how much x is over y, or 0.
-fn over(x: u32, y: u32) -> u32
-    ensures { result ≡ x - y }
-{
-    if x < y {
-        return 0;
-    }
-    x - y
-}
-
 // A number of this many bits, times 5^fives * 2^twos, has no more than these: 5^3 is below 2^7.
-fn bits(width: u32, fives: u32, twos: u32) -> u32
-    requires { (width ≤ 256) × (fives ≤ 410) × (twos ≤ 2500) }
-    ensures { result ≡ width + 7 * (fives / 3 + 1) + twos }
+fn bits(width: u32, by: Factor) -> u32
+    requires { (width ≤ 256) × (by.fives ≤ 410) × (by.twos ≤ 2500) }
+    ensures { result ≡ width + 7 * (by.fives / 3 + 1) + by.twos }
 {
-    width + 7 * (fives / 3 + 1) + twos
+    width + 7 * (by.fives / 3 + 1) + by.twos
 }
 
-// How a text's digits, as one number, times 5^fives * 2^twos stand to m * 5^mfives * 2^mtwos. The twos that both have are left out.
-pub fn against(
-    text: &[u8],
-    from: usize,
-    fives: u32,
-    twos: u32,
-    m: u64,
-    mfives: u32,
-    mtwos: u32,
-) -> Order
-    requires { (from ≤ length text.now) × (length text.now ≤ 64) × (fives ≤ 320) × (mfives ≤ 410) × (twos ≤ 1400) × (mtwos ≤ 2500) }
-    ensures { Stands result (mantissa 0 (drop from text.now) * 5 ^ fives * 2 ^ twos) (m * 5 ^ mfives * 2 ^ mtwos) }
+// How a text's digits, as one number, times the one factor stand to m times the other. The twos that both have are left out.
+pub fn against(digits: &[u8], by: Factor, m: u64, other: Factor) -> Ordering
+    requires { (length digits.now ≤ 64) × (by.fives ≤ 320) × (other.fives ≤ 410) × (by.twos ≤ 1400) × (other.twos ≤ 2500) }
+    ensures { Stands result (times (mantissa 0 digits.now) by) (times m other) }
 {
-    let up = over(twos, mtwos);
-    let down = over(mtwos, twos);
-    let left = bits(4 * (text.len() - from) as u32, fives, up);
-    let right = bits(64, mfives, down);
-    let used = ((left + over(right, left)) / 32 + 1) as usize;
+    let up = Factor {
+        twos: by.twos.saturating_sub(other.twos),
+        ..by
+    };
+    let down = Factor {
+        twos: other.twos.saturating_sub(by.twos),
+        ..other
+    };
+    let left = bits(4 * digits.len() as u32, up);
+    let right = bits(64, down);
+    let used = (left.max(right) / 32 + 1) as usize;
     let mut a: [u32; 112] = [0u32; 112];
     let mut b: [u32; 112] = [0u32; 112];
-    settled(
-        &mut a[..used],
-        &mut b[..used],
-        text,
-        from,
-        fives,
-        up,
-        m,
-        mfives,
-        down,
-    )
+    settled(&mut a[..used], &mut b[..used], digits, up, m, down)
 }

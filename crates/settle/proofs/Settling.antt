@@ -8,7 +8,7 @@ use Rattle.rules.specs.Width.{Width}
 use Rattle.rules.specs.Reading.{infinity}
 use Rattle.theorems.proofs.Halfway.{below_midpoint, at_midpoint, above_midpoint, no_more}
 use Rattle.theorems.proofs.Readable.{Readable}
-use Rattle.limbs.specs.declared.Order.TheVariants.{Below, Equal, Above}
+use Rattle.std.specs.declared.cmp.Ordering.TheVariants.{Less, Equal, Greater}
 use Rattle.settle.specs.Settles.{Side, Reading, Settles}
 
 module _ (w : Width) (a tens least most : ℕ) where
@@ -27,7 +27,7 @@ module _ (w : Width) (a tens least most : ℕ) where
 
     module _ (r : Readable w) (inside : p < infinity w) where
       -- Below the midpoint above p it is p.
-      pub when_below : Side w a tens p Below → Settles w a tens least most p
+      pub when_below : Side w a tens p Less → Settles w a tens least most p
       when_below side up down at lo hi =
           le_antisymm (reached up down at lo hi) (below_midpoint w r (a * 10 ^ up) (10 ^ down) p (ten_pos down) inside (side up down at))
 
@@ -36,6 +36,6 @@ module _ (w : Width) (a tens least most : ℕ) where
       when_equal side up down at lo hi = sym (at_midpoint w r (a * 10 ^ up) (10 ^ down) p (ten_pos down) inside (side up down at))
 
       -- Above it p is ruled out too.
-      pub when_above : Side w a tens p Above → Reached (p + 1)
+      pub when_above : Side w a tens p Greater → Reached (p + 1)
       when_above side up down at lo hi =
           omega (arith, above_midpoint w r (a * 10 ^ up) (10 ^ down) p (ten_pos down) inside (side up down at))

@@ -7,19 +7,19 @@ use lib.Pow.{pow-add}
 use Rattle.laws.proofs.Powers.{ten_pos}
 use Rattle.rules.specs.Width.{Width}
 use Rattle.rules.specs.Reading.{low}
-use Rattle.limbs.specs.declared.Order.{Order}
-use Rattle.limbs.specs.declared.Order.TheVariants.{Below, Equal, Above}
+use Rattle.std.specs.declared.cmp.Ordering.{Ordering}
+use Rattle.std.specs.declared.cmp.Ordering.TheVariants.{Less, Equal, Greater}
 use Rattle.limbs.specs.Stands.{Stands}
 use Rattle.settle.specs.Settles.{Middle, Side}
 
 -- Two numbers stand alike when both are multiplied.
-pub stands_times : (o : Order) (x y c : ℕ) → 0 < c → Stands o x y → Stands o (x * c) (y * c)
-stands_times Below x y c some h = mul-lt-mul_of_pos_right h some
+pub stands_times : (o : Ordering) (x y c : ℕ) → 0 < c → Stands o x y → Stands o (x * c) (y * c)
+stands_times Less x y c some h = mul-lt-mul_of_pos_right h some
 stands_times Equal x y c some h = ap (λ (n : ℕ). n * c) h
-stands_times Above x y c some h = mul-lt-mul_of_pos_right h some
+stands_times Greater x y c some h = mul-lt-mul_of_pos_right h some
 
 -- They stand as two that are equal to them.
-pub stands_same : (o : Order) {x y u v : ℕ} → x ≡ u → y ≡ v → Stands o x y → Stands o u v
+pub stands_same : (o : Ordering) {x y u v : ℕ} → x ≡ u → y ≡ v → Stands o x y → Stands o u v
 stands_same o p q h = rw (← p, ← q) h
 
 -- A power of ten is as many fives and twos.
@@ -28,7 +28,7 @@ ten_parts zero = refl
 ten_parts (suc n) = rw (pow-succ' 10 n, pow-succ' 5 n, pow-succ' 2 n, ten_parts n) (omega arith)
 
 -- The number a * 10^up / 10^down, twice, in units of 2^-low, and a midpoint of m * 2^k units.
-module _ (o : Order) (a m k n l up down : ℕ) where
+module _ (o : Ordering) (a m k n l up down : ℕ) where
   -- Where the power of ten is not bel zero, its fives and twos stand at the digits.
   pub fives_up : up ≡ n + down → Stands o (a * 5 ^ n * 2 ^ (n + (l + 1))) (m * 5 ^ 0 * 2 ^ k) → Stands o (2 * (a * 10 ^ up * 2 ^ l)) (m * 2 ^ k * 10 ^ down)
   fives_up is h =
@@ -46,7 +46,7 @@ module _ (o : Order) (a m k n l up down : ℕ) where
       stands_same o left right (stands_times o (a * 5 ^ 0 * 2 ^ (l + 1)) (m * 5 ^ n * 2 ^ (n + k)) (10 ^ up) (ten_pos up) h)
 
 -- The same with the unit's twos, and one for twice the number, as a width has them.
-module _ (w : Width) (unit : ℕ) (is : unit ≡ low w + 1) (o : Order) (a tens p m k : ℕ) (middle : Middle w p m k) where
+module _ (w : Width) (unit : ℕ) (is : unit ≡ low w + 1) (o : Ordering) (a tens p m k : ℕ) (middle : Middle w p m k) where
   pub above_unit : 10100 ≤ tens →
       Stands o (a * 5 ^ (tens - 10100) * 2 ^ (tens - 10100 + unit)) (m * 5 ^ 0 * 2 ^ k) → Side w a tens p o
   above_unit more h up down at =

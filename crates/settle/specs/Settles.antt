@@ -3,7 +3,7 @@ use Rattle.std.specs.Prelude.{ℕ, ◌+◌, ◌*◌, ◌^◌, ◌≤◌, ◌≡�
 use Rattle.rules.specs.Width.{Width}
 use Rattle.rules.specs.Reading.{low, nearest}
 use Rattle.theorems.proofs.Halfway.{midpoint}
-use Rattle.limbs.specs.declared.Order.{Order}
+use Rattle.std.specs.declared.cmp.Ordering.{Ordering}
 use Rattle.limbs.specs.Stands.{Stands}
 
 -- The midpoint above the pattern p, twice, is m * 2^k units.
@@ -12,7 +12,7 @@ pub record Middle (w : Width) (p m k : ℕ) : Type 0 where
   pub few : k ≤ 2046
 
 -- How the number stands to the midpoint above p.
-abbrev pub Side : Width → ℕ → ℕ → ℕ → Order → Type 0
+abbrev pub Side : Width → ℕ → ℕ → ℕ → Ordering → Type 0
 Side w a tens p o = (up down : ℕ) → tens + down ≡ 10100 + up → Stands o (2 * (a * 10 ^ up * 2 ^ low w)) (midpoint w p * 10 ^ down)
 
 -- What the number reads as has a property, if it is one of the patterns from `least` to `most`.

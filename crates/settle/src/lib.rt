@@ -6,8 +6,9 @@ ghost use Rattle.rules.specs.Reading.{infinity};
 ghost use Rattle.scan.specs.Mantissa.{mantissa};
 ghost use Rattle.settle.specs.Settles.{Middle, Side, Settles};
 
-use limbs::Order;
+use limbs::Factor;
 use patterns::Pattern;
+use std::cmp::Ordering;
 
 // The midpoint between a pattern and the next one, twice: m * 2^twos units.
 #[derive(Clone, Copy)]
@@ -36,7 +37,7 @@ fn midpoint_above<P: Pattern>(p: u64) -> Midpoint
 }
 
 // How the number with these digits stands to the midpoint above a pattern.
-fn side<P: Pattern>(digits: &[u8], tens: u32, p: u64) -> Order
+fn side<P: Pattern>(digits: &[u8], tens: u32, p: u64) -> Ordering
     requires room { (length digits.now ≤ 64) × (9694 ≤ tens) × (tens ≤ 10408) }
     requires finite { p < infinity P.width }
     ensures { Side P.width (mantissa 0 digits.now) tens p result }
@@ -45,10 +46,26 @@ fn side<P: Pattern>(digits: &[u8], tens: u32, p: u64) -> Order
     let unit = P::BIAS + P::FRACTION;
     if tens < 10100 {
         let n = 10100 - tens;
-        return limbs::against(digits, 0, 0, unit, h.m, n, n + h.twos);
+        let number = Factor {
+            fives: 0,
+            twos: unit,
+        };
+        let middle = Factor {
+            fives: n,
+            twos: n + h.twos,
+        };
+        return limbs::against(digits, number, h.m, middle);
     }
     let n = tens - 10100;
-    limbs::against(digits, 0, n, n + unit, h.m, 0, h.twos)
+    let number = Factor {
+        fives: n,
+        twos: n + unit,
+    };
+    let middle = Factor {
+        fives: 0,
+        twos: h.twos,
+    };
+    limbs::against(digits, number, h.m, middle)
 }
 
 // The pattern, of those from `least` to `most`, that the number with these digits reads as. Of a pattern and the next one the even one is
@@ -60,9 +77,9 @@ pub fn settle<P: Pattern>(digits: &[u8], tens: u32, least: u64, most: u64) -> u6
     let last = most.min(closest::infinity::<P>());
     for p in least..last {
         match side::<P>(digits, tens, p) {
-            Order::Below => return p,
-            Order::Equal => return p + p % 2,
-            Order::Above => {}
+            Ordering::Less => return p,
+            Ordering::Equal => return p + p % 2,
+            Ordering::Greater => {}
         }
     }
     last

@@ -2,6 +2,5 @@
 use Rattle.limbs.proofs.Scaled.{room_left}
 use Rattle.limbs.proofs.put_number.Goals as goal
 
-pub scale-requires : goal.scale-requires
-scale-requires c =
-    record { twos_bound = c.requires.0; product_fits = room_left c.requires.2 c.load.ensures }
+pub scale-requires-clause-product_fits : goal.scale-requires-clause-product_fits
+scale-requires-clause-product_fits c = room_left c.requires.2 c.load.ensures

@@ -5,10 +5,10 @@ use native.Mathlib.Omega.{arith}
 use Rattle.settle.proofs.Settling.{at_last, when_below, when_equal, when_above}
 use Rattle.settle.proofs.settle.Goals as goal
 
-pub returns-in-Below : goal.returns-in-Below
-returns-in-Below g c =
+pub returns-in-Less : goal.returns-in-Less
+returns-in-Less g c =
     when_below g.P.Pattern.width _ _ c.args.least c.args.most c.loop-p.p c.loop-p.invariant g.met.P.Pattern.spanned.readable
-    (omega (arith, c.loop-p-test.true, c.min-last.ensures, c.infinity.ensures)) c.in-Below.ensures
+    (omega (arith, c.loop-p-test.true, c.min-last.ensures, c.infinity.ensures)) c.in-Less.ensures
 
 pub returns-in-Equal : goal.returns-in-Equal
 returns-in-Equal g c =
@@ -18,7 +18,7 @@ returns-in-Equal g c =
 pub loop-p-preserved : goal.loop-p-preserved
 loop-p-preserved g c =
     when_above g.P.Pattern.width _ _ c.args.least c.args.most c.loop-p.p c.loop-p.invariant g.met.P.Pattern.spanned.readable
-    (omega (arith, c.loop-p-test.true, c.min-last.ensures, c.infinity.ensures)) c.in-Above.ensures
+    (omega (arith, c.loop-p-test.true, c.min-last.ensures, c.infinity.ensures)) c.in-Greater.ensures
 
 pub returns : goal.returns
 returns g c =
