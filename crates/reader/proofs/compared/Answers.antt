@@ -14,5 +14,5 @@ returns g c =
     let t = c.args.text.now in
     let digits = ap (λ (n : ℕ). take (length t - n) (drop n t)) c.from.ensures ∙ from_sign x.negative t in
     by_comparison g.P.Pattern.width g.met.P.Pattern.spanned t x _ _ c.requires.scaled _ _ c.around-ends.ensures _
-    (subst (λ (l : List ℕ). Settles g.P.Pattern.width (mantissa 0 l) (x.place - x.dropped) c.around-ends.result.least c.around-ends.result.most c.settle.result)
+    (subst (λ (l : List ℕ). Settles g.P.Pattern.width (mantissa 0 l) (x.place - x.held.dropped) c.around-ends.result.least c.around-ends.result.most c.settle.result)
     digits c.settle.ensures)

@@ -25,11 +25,11 @@ returns-else-x-lt-FIRST g c =
     let w = g.P.Pattern.width in
     let x = c.args.x in
     let some = c.if-x-lt-FIRST.false.0 in
-    let untabled = subst (Scales x.digits x.place) c.in_default.is c.requires.scaled in
+    let untabled = subst (Scales x.held.digits x.place) c.in_default.is c.requires.scaled in
     subst (Reads w c.args.text.now x) (sym c.infinity.ensures)
     (too_large w g.met.P.Pattern.spanned c.args.text.now x (omega (arith, some)) (above untabled some c.if-x-lt-FIRST.false.1))
 
 pub returns-in-Some-quickly : goal.returns-in-Some-quickly
 returns-in-Some-quickly g c =
-    let all : c.args.x.more ≡ false = search rules in
+    let all : c.args.x.held.more ≡ false = search rules in
     found_quickly g.P.Pattern.width g.met.P.Pattern.spanned c.args.text.now c.args.x _ all c.in-Some-quickly.ensures
