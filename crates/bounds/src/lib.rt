@@ -63,7 +63,11 @@ impl Product {
         let short = 1 - (self.upper >> 63) as u32;
         let full = self.upper << short;
         let place = self.exponent - short + (63 - P::FRACTION);
-        let field = place.checked_sub(closest::unit::<P>())?;
+        let unit = closest::unit::<P>();
+        if place < unit {
+            return None;
+        }
+        let field = place - unit;
         if P::ONES <= field + 1 {
             return None;
         }

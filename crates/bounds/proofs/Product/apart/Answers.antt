@@ -44,7 +44,10 @@ most : (g : Over) (c : After-FRACTION-2 g) → half g c ≤ 2 ^ 62
 most g c = half_most g.P.Pattern.width.S (half g c) (half_is g c)
 
 -- The exponent's field, less the hidden bit.
-field_few : (g : Over) (c : After-FRACTION-3 g) → c.in_ok-field.field + 1 < all_ones g.P.Pattern.width
+abbrev field : (g : Over) → After-FRACTION-3 g → ℕ
+field g c = c.args.self.exponent - short c.args.self.upper + (63 - c.FRACTION.result) - c.unit-unit.result
+
+field_few : (g : Over) (c : After-FRACTION-3 g) → field g c + 1 < all_ones g.P.Pattern.width
 field_few g c = omega (arith, c.if-ONES-field.false, c.ONES.ensures, g.met.P.Pattern.numbers.ones_is)
 
 pub overflow_sub-beyond : goal.overflow_sub-beyond
@@ -66,7 +69,7 @@ overflow_add-result-2 g c =
     let k = g.met.P.Pattern.numbers in
     let m = c.args.self.upper in
     let s = g.P.Pattern.width.S in
-    let x = c.in_ok-field.field in
+    let x = field g c in
     let room : (x + 2) * 2 ^ s ≤ all_ones g.P.Pattern.width * 2 ^ s = mul-le-mul_right (2 ^ s) (omega (arith, field_few g c)) in
     rw (c.from.ensures, c.FRACTION-3.ensures ∙ k.fraction_is)
     (omega (
@@ -82,11 +85,11 @@ pub returns : goal.returns
 returns g c =
     let k = g.met.P.Pattern.numbers in
     let m = c.args.self.upper in
-    let x = c.in_ok-field.field in
+    let x = field g c in
     let cut = c.FRACTION.ensures ∙ k.fraction_is in
     rw (c.from.ensures, c.FRACTION-3.ensures ∙ k.fraction_is)
     (both_ends k (full m) (half g c.before.before.before) (2 * c.args.far) (full-high m c.args.self.raised.high (omega arith)) (omega arith)
     (half_is g c.before.before.before) (omega arith) c.if-beyond-half.false
-    g.met.P.Pattern.spanned.readable c.unit.result c.unit.ensures (c.args.self.exponent - short m) x (omega (arith, cut, c.in_ok-field.ensures)) (field_few g c)
+    g.met.P.Pattern.spanned.readable c.unit-unit.result c.unit-unit.ensures (c.args.self.exponent - short m) x (omega (arith, cut, c.if-place-unit.false)) (field_few g c)
     m c.args.far (short m) c.args.self.exponent _ (full_is m c.args.self.raised.high (omega arith)) (omega arith) (twice m c.args.far)
     (placed k x (omega (arith, field_few g c))))
