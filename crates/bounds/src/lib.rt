@@ -63,6 +63,7 @@ impl Product {
         let short = 1 - (self.upper >> 63) as u32;
         let full = self.upper << short;
         let place = self.exponent - short + (63 - P::FRACTION);
+        // Tested before it is taken: with checked_sub, which was tried, the test became a part of the sum below, and reading slower.
         let unit = closest::unit::<P>();
         if place < unit {
             return None;
