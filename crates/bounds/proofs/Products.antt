@@ -21,10 +21,6 @@ pub exponent_few : (i : ℕ) → i < 651 → exponent i < 2200
 unfolding exponent
 exponent_few i inside = omega arith
 
-pub open_few : (more : Bool) (far : ℕ) → Opens more far → far ≤ 18
-open_few true far is = omega arith
-open_few false far is = omega arith
-
 -- Where a digit is left out that is not 0, 19 were kept.
 dropped_long : (a digits d : ℕ) → Kept a digits d true → 10 ^ 18 ≤ digits
 dropped_long a digits zero kept = absurd (omega (arith, kept.above refl, kept.high))

@@ -4,7 +4,7 @@ use mathlib.Core.Path.{◌≡◌, sym, ap, ap₂, ◌∙◌}
 use Prim.Native.Nat.{ℕ, zero, suc, ◌+◌, ◌*◌, ◌^◌, ◌≤◌, ◌<◌}
 use native.Mathlib.Nat.{mul-pos}
 use native.Mathlib.Omega.{arith}
-use lib.Dec.{T, ltb, eqb, eqb-suc-zero, le→leb}
+use lib.Dec.{T, ltb, eqb, eqb-suc-zero}
 use lib.IntN.{pos}
 use lib.Ieee as Ieee
 use lib.Ieee.{Float, nan, inf, fin, Format, binary64, unlike, up, down, units, odd, round, mul, div, is_nan, of_int, in_float}
@@ -70,7 +70,3 @@ rounded_not_nan f s n d = rw (round_is f s n d) (units_not_nan f s _ _)
 pub whole : (m : ℕ) → m ≤ 2 ^ 53 → Is (of_int binary64 (pos m)) m 1
 unfolding of_int
 whole m h = round_whole binary64 false m h
-
-pub whole_fits : (m : ℕ) → m ≤ 2 ^ 53 → T (in_float binary64 (pos m))
-unfolding in_float
-whole_fits m h = le→leb m (2 ^ 53) h

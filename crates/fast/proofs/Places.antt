@@ -15,9 +15,6 @@ use Rattle.theorems.proofs.Readable.{readable64}
 use Rattle.fast.specs.Quick.{Trims}
 
 -- ---- zeros at the end
-pub none_off : (digits place : ℕ) → Trims digits place digits place
-none_off digits place = record { zeros = 0; number = omega arith; place_is = omega arith }
-
 -- One more zero is taken off.
 pub one_off : (digits place t p : ℕ) → Trims digits place t p → t % 10 ≡ 0 → Trims digits place (t / 10) (p + 1)
 one_off digits place t p h none =

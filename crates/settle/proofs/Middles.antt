@@ -1,10 +1,10 @@
 -- The midpoint above a pattern, by the pattern's exponent field and its other bits. Assumes nothing.
 use mathlib.Core.Path.{◌≡◌, ap}
-use Prim.Native.Nat.{ℕ, suc, ◌+◌, ◌-◌, ◌*◌, ◌/◌, ◌%◌, ◌^◌, ◌≤◌, ◌<◌}
+use Prim.Native.Nat.{ℕ, suc, ◌+◌, ◌-◌, ◌*◌, ◌/◌, ◌%◌, ◌^◌, ◌<◌}
 use native.Mathlib.Nat.{div-add-mod', div-lt_iff_lt-mul, mod-lt}
 use native.Mathlib.Omega.{arith}
 use lib.Dec.{lit≤}
-use lib.Pow.{pow_pos, pow_mono}
+use lib.Pow.{pow_pos}
 use Rattle.rules.specs.Width.{Width}
 use Rattle.rules.specs.Reading.{infinity}
 use Rattle.theorems.proofs.Halfway.{midpoint, midpoint_at}
@@ -33,24 +33,10 @@ module _ (w : Width) (p : ℕ) where
 
 -- ---- the same with the hidden bit h, and with the bounds that the code needs
 module _ {w : Width} {size fraction bias ones pair : ℕ} (its : Numbers w size fraction bias ones pair) (p h : ℕ) (is : h ≡ 2 ^ w.S) (inside : p < infinity w) where
-  pub hidden_some : 0 < h
-  hidden_some = rw is (pow_pos w.S)
-
   -- The exponent field is one of the width.
   pub field_few : p / h < 2047
   unfolding infinity
   field_few = rw is (omega (arith, its.most, (div-lt_iff_lt-mul (pow_pos w.S)).1 inside))
-
-  -- The pattern has a bit to spare.
-  pub pattern_few : p < 2 ^ 63
-  unfolding infinity
-  pattern_few = omega (arith, its.infinite)
-
-  -- The significand and the hidden bit are far below 2^64.
-  pub significand_few : h + p % h < 2 ^ 54
-  significand_few =
-      let most : h ≤ 2 ^ 52 = rw is (pow_mono its.few) in
-      omega (arith, mod-lt p hidden_some)
 
   pub with_field_0 : p / h ≡ 0 → Middle w p (2 * p + 1) 0
   with_field_0 none = record { is = subnormal_midpoint w p (rw (← is) none); few = lit≤ tt }

@@ -16,9 +16,6 @@ module _ (w : Width) (a tens least most : ℕ) where
   abbrev pub Reached : ℕ → Type 0
   Reached p = Reading w a tens least most (λ n. p ≤ n)
 
-  pub at_first : Reached least
-  at_first up down at lo hi = lo
-
   module _ (p : ℕ) (reached : Reached p) where
     -- No pattern is behind the last one, nor behind the infinity.
     pub at_last : min most (infinity w) ≤ p → Settles w a tens least most (min most (infinity w))
