@@ -1,31 +1,33 @@
--- Entries of the table are right where a test of them computes to a pass. Assumes nothing.
-use mathlib.Core.Path.{◌≡◌, sym, subst}
-use Prim.Native.Nat.{ℕ, ◌+◌, ◌*◌, ◌^◌}
-use lib.Dec.{T}
+-- The entries of the table are right, by a test of each that computes. Assumes nothing.
+use Rattle.std.proofs.Common.{◌≡◌, ℕ, zero, suc, ◌+◌, ◌*◌, ◌^◌, ◌<◌, Bool, true, ◌&&◌, T, List, [], ◌∷◌, length, get_or, subst, arith}
+use Rattle.laws.proofs.Branches.{and_left, and_right}
 use Rattle.laws.proofs.Tests.{Test, le, lt, ◌and◌, Holds, run, says}
-use Rattle.tens.specs.Leading.{exponent, Leading, Fours}
+use Rattle.tens.specs.declared.table.TheConstants.{POWERS}
+use Rattle.tens.specs.Leading.{exponent, Leading}
 
--- That x is the leading 64 bits of 10^(i - 342), as a test that computes ..
+-- That x is the leading 64 bits of 10^(i - 342) ..
 abbrev one : ℕ → ℕ → Test
 one i x =
     le (2 ^ 63) x
     and le (x * 2 ^ exponent i * 10 ^ 342) (10 ^ i * 2 ^ 1200)
     and lt (10 ^ i * 2 ^ 1200) ((x + 1) * 2 ^ exponent i * 10 ^ 342)
 
--- .. and that four numbers are, of four powers.
-abbrev pub all : ℕ → ℕ → ℕ → ℕ → ℕ → Test
-all i a b c d = one i a and one (i + 1) b and one (i + 2) c and one (i + 3) d
+-- .. and that a list has those from the i-th power on.
+abbrev all_from : ℕ → List ℕ → Bool
+all_from i [] = true
+all_from i (x ∷ xs) = run (one i x) && all_from (suc i) xs
 
-leading : {i x : ℕ} → Holds (one i x) → Leading i x
-leading (most, (least, next)) = record { high = most; below = least; above = next }
+leading : (i x : ℕ) → Holds (one i x) → Leading i x
+leading i x (most, (least, next)) = record { high = most; below = least; above = next }
 
--- The arm for n has the leading bits of its powers, where the test passes.
-pub row : {k n a b c d : ℕ} → k ≡ n → T (run (all (4 * n) a b c d)) → Fours (4 * k) a b c d
-row {k} {n} {a} {b} {c} {d} at passes = subst (λ (m : ℕ). Fours (4 * m) a b c d) (sym at) (told (says (all (4 * n) a b c d) passes))
-  where
-    told : Holds (all (4 * n) a b c d) → Fours (4 * n) a b c d
-    told (p, (q, (r, s))) = record { first = leading p; second = leading q; third = leading r; fourth = leading s }
+entry : (xs : List ℕ) (first j i : ℕ) → T (all_from first xs) → j < length xs → first + j ≡ i → Leading i (get_or xs j 0)
+entry [] first j i passes inside at = absurd (omega arith)
+entry (x ∷ xs) first zero i passes inside at =
+    let here : first ≡ i = omega arith in
+    subst (λ (k : ℕ). Leading k x) here (leading first x (says (one first x) (and_left (run (one first x)) (all_from (suc first) xs) passes)))
+entry (x ∷ xs) first (suc j) i passes inside at =
+    entry xs (suc first) j i (and_right (run (one first x)) (all_from (suc first) xs) passes) (omega arith) (omega arith)
 
--- An entry under another name of its place.
-pub moved : {i j x : ℕ} → j ≡ i → Leading j x → Leading i x
-moved {i} {j} {x} e p = subst (λ (m : ℕ). Leading m x) e p
+pub of_table : (i : ℕ) → i < 651 → Leading i (get_or POWERS i 0)
+unfolding exponent
+of_table i inside = entry POWERS 0 i i tt inside (omega arith)
