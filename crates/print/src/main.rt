@@ -1,59 +1,17 @@
 // Prints the text of each pattern that standard input lists, one to a line: 8 hex digits for 32 bits, 16 for 64.
 #![tactic(auto)]
 
-ghost use Rattle.std.specs.Prelude.{◌≤◌};
-
 use hexline::Pattern;
+use lines::Line;
 use powers::Powers;
 use std::io;
 use std::io::Read;
-
-// How many bytes of a line are kept.
-const ROOM: usize = 4096;
 
 // How many bytes there are for a text and a line end.
 const TEXT_ROOM: usize = 26;
 
 // The most bytes that one read takes.
 const CHUNK: usize = 65536;
-
-// A line: its number, and its bytes as far as they are kept. The array is fixed, so that a line of any length takes no memory.
-#[derive(Drop)]
-struct Line {
-    number: u64,
-    bytes: [u8; ROOM],
-    len: usize,
-    ghost within: { len ≤ 4096 },
-}
-
-impl Line {
-    // The first line, of which nothing has come yet.
-    fn first() -> Line {
-        Line {
-            number: 1,
-            bytes: [0u8; ROOM],
-            len: 0,
-        }
-    }
-
-    // Keeps one more byte. A carriage return stands only before a line end, and is no part of a line.
-    fn push(&mut self, b: u8) {
-        if b != b'\r' && self.len < ROOM {
-            self.bytes[self.len] = b;
-            self.len += 1;
-        }
-    }
-
-    fn text(&self) -> &[u8] {
-        &self.bytes[..self.len]
-    }
-
-    // Begins the next line. No input has so many that the number stops at the last.
-    fn next(&mut self) {
-        self.number = self.number.saturating_add(1);
-        self.len = 0;
-    }
-}
 
 // Writes the text of a pattern.
 fn show<P: Powers>(rt: &impl Print, pattern: P) -> io::Result<()> {
@@ -74,23 +32,24 @@ fn complain(rt: &impl Eprint, number: u64) {
 
 // Prints what a whole line asks for.
 fn finish(rt: &(impl Print + Eprint), line: &Line) -> io::Result<()> {
-    match hexline::parse(line.text()) {
+    match hexline::parse(line.bytes()) {
         Some(Pattern::Single(bits)) => show(rt, bits),
         Some(Pattern::Double(bits)) => show(rt, bits),
         None => {
-            complain(rt, line.number);
+            complain(rt, line.number());
             Ok(())
         }
     }
 }
 
-// Takes the bytes that one read brought, up to the first write that fails.
+// Takes the bytes that one read brought, up to the first write that fails. A carriage return stands only before a line end, and is no
+// part of a line.
 fn take(rt: &(impl Print + Eprint), line: &mut Line, bytes: &[u8]) -> io::Result<()> {
     for b in bytes {
         if *b == b'\n' {
             finish(rt, line)?;
             line.next();
-        } else {
+        } else if *b != b'\r' {
             line.push(*b);
         }
     }
@@ -110,7 +69,7 @@ fn print_all(rt: &(impl Input + Print + Eprint)) -> io::Result<()> {
         }
         take(rt, &mut line, &buf[..n])?;
     }
-    if 0 < line.len {
+    if !line.bytes().is_empty() {
         finish(rt, &line)?;
     }
     Ok(())

@@ -1,77 +1,38 @@
 // Reads each text that standard input lists, one to a line, and writes its patterns of 32 and of 64 bits in hex.
 #![tactic(auto)]
 
-ghost use Rattle.std.specs.Prelude.{◌≤◌};
-
+use lines::Line;
 use reader::ReadError;
 use std::io;
 use std::io::Read;
 
-// How many bytes of a line are kept.
-const ROOM: usize = 4096;
-
 // The most bytes that one read takes.
 const CHUNK: usize = 65536;
-
-// A line: its number, and its bytes as far as they are kept. The array is fixed, so that a line of any length takes no memory.
-#[derive(Drop)]
-struct Line {
-    number: u64,
-    bytes: [u8; ROOM],
-    len: usize,
-    ghost within: { len ≤ 4096 },
-}
-
-impl Line {
-    // The first line, of which nothing has come yet.
-    fn first() -> Line {
-        Line {
-            number: 1,
-            bytes: [0u8; ROOM],
-            len: 0,
-        }
-    }
-
-    // Keeps one more byte. A line that is too long to be kept whole is too long to be read.
-    fn push(&mut self, b: u8) {
-        if self.len < ROOM {
-            self.bytes[self.len] = b;
-            self.len += 1;
-        }
-    }
-
-    // The text of the line: a carriage return before the line end is no part of it.
-    fn text(&self) -> &[u8] {
-        let kept = &self.bytes[..self.len];
-        match kept.split_last() {
-            Some((b'\r', text)) => text,
-            _ => kept,
-        }
-    }
-
-    // Begins the next line. No input has so many that the number stops at the last.
-    fn next(&mut self) {
-        self.number = self.number.saturating_add(1);
-        self.len = 0;
-    }
-}
 
 // Says on standard error why a line is not read. The run goes on where that cannot be written.
 fn complain(rt: &impl Eprint, number: u64, why: &str) {
     let _ = eprintln!(rt; "read: line {number}: {why}");
 }
 
+// The text of a line: a carriage return before the line end is no part of it. A line that is too long to be kept whole is too long to be read.
+fn text(line: &Line) -> &[u8] {
+    match line.bytes().split_last() {
+        Some((b'\r', text)) => text,
+        _ => line.bytes(),
+    }
+}
+
 // Reads what a whole line says, at both widths.
 fn finish(rt: &(impl Print + Eprint), line: &Line) -> io::Result<()> {
-    let single = reader::read::<u32>(line.text());
-    match reader::read::<u64>(line.text()) {
+    let single = reader::read::<u32>(text(line));
+    match reader::read::<u64>(text(line)) {
         Ok(wide) => {
             if let Ok(narrow) = single {
                 println!(rt; "{narrow:08x} {wide:016x}")?;
             }
         }
-        Err(ReadError::WrongLength) => complain(rt, line.number, "not 1 to 64 bytes"),
-        Err(ReadError::WrongForm) => complain(rt, line.number, "not a number"),
+        Err(ReadError::WrongLength) => complain(rt, line.number(), "not 1 to 64 bytes"),
+        Err(ReadError::WrongForm) => complain(rt, line.number(), "not a number"),
     }
     Ok(())
 }
@@ -102,7 +63,7 @@ fn read_all(rt: &(impl Input + Print + Eprint)) -> io::Result<()> {
         }
         take(rt, &mut line, &buf[..n])?;
     }
-    if 0 < line.len {
+    if !line.bytes().is_empty() {
         finish(rt, &line)?;
     }
     Ok(())
