@@ -1,7 +1,7 @@
 -- The product of two pairs: the significands', rounded, and the exponents' sum. Assumes nothing.
 use mathlib.Core.Path.{◌≡◌, sym, ap, ◌∙◌}
 use Prim.Native.Nat.{ℕ, suc, ◌+◌, ◌-◌, ◌*◌, ◌/◌, ◌%◌, ◌^◌, ◌≤◌, ◌<◌}
-use native.Mathlib.Nat.{add-mul, mod-eq_of_lt, mul_assoc, mul_comm, mul-div-mul_right, mul-lt-mul_of_pos_right}
+use native.Mathlib.Nat.{add-mul, mod-eq_of_lt, mul_assoc, mul-div-mul_right, mul-lt-mul_of_pos_right}
 use native.Mathlib.Omega.{arith}
 use lib.IntN.{ℤ, pos, negsuc, ◌+ℤ◌}
 use lib.Pow.{pow_pos, pow-add}
@@ -15,21 +15,17 @@ use Rattle.rules.specs.Product.{product}
 use Rattle.theorems.proofs.Product.{dropped_nothing}
 use Rattle.diyfp.specs.Pairs.{Near}
 
--- With f at the upper end of a word of 64 bits, the upper word of the product, rounded, is the rules' product.
-pub product_is : (w : Width) → w.dropped < w.N → w.N ≤ 64 → (f g : ℕ) → f < 2 ^ w.N → (f * 2 ^ (64 - w.N) % 2 ^ 64 * g + 2 ^ 63) / 2 ^ 64 ≡ product w f g
-product_is w dropped word f g high =
+-- With g at the upper end of a word of 64 bits, the upper word of the product, rounded, is the rules' product.
+pub product_is : (w : Width) → w.dropped < w.N → w.N ≤ 64 → (f g : ℕ) → g < 2 ^ w.N → (f * (g * 2 ^ (64 - w.N) % 2 ^ 64) + 2 ^ 63) / 2 ^ 64 ≡ product w f g
+product_is w dropped word f g low =
     let k = 64 - w.N in
     let all : 64 ≡ w.N + k = omega arith in
     let less : 63 ≡ w.N - 1 + k = omega (arith, dropped) in
     let whole : 2 ^ 64 ≡ 2 ^ w.N * 2 ^ k = ap (λ (e : ℕ). 2 ^ e) all ∙ pow-add 2 w.N k in
     let half : 2 ^ 63 ≡ 2 ^ (w.N - 1) * 2 ^ k = ap (λ (e : ℕ). 2 ^ e) less ∙ pow-add 2 (w.N - 1) k in
-    let fits : f * 2 ^ k < 2 ^ 64 = rw whole (mul-lt-mul_of_pos_right high (pow_pos k)) in
-    rw (mod-eq_of_lt fits, half, whole, dropped_nothing w f g dropped) (aligned f (2 ^ (w.N - 1)) (2 ^ k) (2 ^ w.N) (pow_pos k))
-  where
-    aligned : (a h k n : ℕ) → 0 < k → (a * k * g + h * k) / (n * k) ≡ (a * g + h) / n
-    aligned a h k n some =
-        let e : a * k * g ≡ a * g * k = mul_assoc a k g ∙ ap (λ (x : ℕ). a * x) (mul_comm k g) ∙ sym (mul_assoc a g k) in
-        rw (e, ← add-mul) (mul-div-mul_right (a * g + h) n some)
+    let fits : g * 2 ^ k < 2 ^ 64 = rw whole (mul-lt-mul_of_pos_right low (pow_pos k)) in
+    rw (mod-eq_of_lt fits, half, whole, dropped_nothing w f g dropped, ← mul_assoc, ← add-mul)
+    (mul-div-mul_right (f * g + 2 ^ (w.N - 1)) (2 ^ w.N) (pow_pos k))
 
 -- An exponent near zero, as a difference.
 record Differs (z : ℤ) : Type 0 where

@@ -76,16 +76,22 @@ impl DiyFp {
         }
     }
 
-    // The lower boundary where it lies, before it is brought to the upper's exponent.
+    // The lower boundary where it lies, before it is brought to the upper's exponent. Each case is written out: one shift, by 2 or by 1,
+    // was slower.
     fn below<P: Pattern>(self) -> DiyFp
         requires { StandsIn P.width (Finite P.width) self }
         ensures { Becomes P.width (below P.width) self result }
     {
         let hidden = hidden_bit::<P>();
-        let by = if self.f == hidden { 2 } else { 1 };
+        if self.f == hidden {
+            return DiyFp {
+                f: (self.f << 2) - 1,
+                e: self.e - 2,
+            };
+        }
         DiyFp {
-            f: (self.f << by) - 1,
-            e: self.e - by,
+            f: (self.f << 1) - 1,
+            e: self.e - 1,
         }
     }
 
@@ -107,14 +113,14 @@ impl DiyFp {
         Boundaries { minus, plus }
     }
 
-    // The product: exponents added, plus the bits of a significand, and the upper half of the significands' product, rounded. With one of
-    // them at the upper end of a word, that is the upper word.
+    // The product: exponents added, plus the bits of a significand, and the upper half of the significands' product, rounded. With the
+    // second at the upper end of a word, that is the upper word.
     pub fn times<P: Pattern>(self, rhs: DiyFp) -> DiyFp
-        requires { Factor P.width self × Near rhs.e }
+        requires { Near self.e × Factor P.width rhs }
         ensures { Times P.width self rhs result }
     {
-        let aligned = self.f << (64 - P::PAIR);
-        let whole = aligned as u128 * rhs.f as u128;
+        let aligned = rhs.f << (64 - P::PAIR);
+        let whole = self.f as u128 * aligned as u128;
         DiyFp {
             f: ((whole + (1 << 63)) >> 64) as u64,
             e: self.e + rhs.e + P::PAIR as i32,

@@ -17,8 +17,7 @@ use Rattle.rules.specs.Boundaries.{upper, lower, value}
 use Rattle.rules.specs.Power.{index, P}
 use Rattle.rules.specs.Product.{product}
 use Rattle.rules.specs.Scaled.{scaled, D}
-use Rattle.theorems.proofs.Boundaries as boundaries
-use Rattle.theorems.proofs.Boundaries.{Finite, one_exponent, exponent_most, upper-shifted, value_shifted}
+use Rattle.theorems.proofs.Boundaries.{Finite, one_exponent, exponent_most}
 use Rattle.theorems.proofs.Power.{reach}
 use Rattle.theorems.proofs.Scale.{Scales, finite_scales}
 use Rattle.theorems.proofs.Widths.{Sound}
@@ -51,28 +50,23 @@ module _ {w : Width} {q : ℕ} (sound : Sound w q) (small : Small w) {m : Pair} 
   at_E : {e : ℤ} → e ≡ sub_ℕ E (off w) → Near e
   at_E is = near_difference E (off w) is (omega (arith, most, small.sum)) (omega (arith, small.sum))
 
-  -- The boundaries and the value are factors of N bits, with exponents near zero, and the power's exponent is so.
-  pub upper_factor : {p : DiyFp} → Stands w (upper w m) p → Factor w p
-  upper_factor s = record { fits = omega (arith, s.significand, (upper-shifted w q sound m h).fits); near = at_E s.exponent }
+  pub upper_near : {p : DiyFp} → Stands w (upper w m) p → Near p.e
+  upper_near s = at_E s.exponent
 
-  pub lower_factor : {p : DiyFp} → Stands w (lower w m) p → Factor w p
+  pub lower_near : {p : DiyFp} → Stands w (lower w m) p → Near p.e
   unfolding lower
-  lower_factor s =
-      record {
-        fits = omega (arith, s.significand, (boundaries.apart w q sound m h).below-value, (value_shifted w q sound m h).fits);
-        near = at_E s.exponent;
-      }
+  lower_near s = at_E s.exponent
 
-  pub value_factor : {p : DiyFp} → Stands w (value w m) p → Factor w p
-  value_factor s =
-      record {
-        fits = omega (arith, s.significand, (value_shifted w q sound m h).fits);
-        near = at_E (s.exponent ∙ ap (λ (x : ℕ). sub_ℕ x (off w)) (one_exponent w q sound m h));
-      }
+  pub value_near : {p : DiyFp} → Stands w (value w m) p → Near p.e
+  value_near s = at_E (s.exponent ∙ ap (λ (x : ℕ). sub_ℕ x (off w)) (one_exponent w q sound m h))
 
-  pub power_near : {c : CachedPower} → Cached w E c → Near c.power.e
-  power_near c =
-      near_difference y w.twos c.exponent (omega (arith, (reach w q sound E most).least_x, small.sum)) (omega (arith, small.sum))
+  pub power_factor : {c : CachedPower} → Cached w E c → Factor w c.power
+  power_factor c =
+      let r = reach w q sound E most in
+      record {
+        fits = omega (arith, c.significand, (sound.entry (index w E) r.inside).fits);
+        near = near_difference y w.twos c.exponent (omega (arith, r.least_x, small.sum)) (omega (arith, small.sum));
+      }
 
   -- The upper boundary's exponent is read as it was written, and the table serves it.
   pub upper_read : {p : DiyFp} → Stands w (upper w m) p → read p.e ≡ sub_ℕ E (off w)

@@ -3,8 +3,8 @@ use native.Mathlib.Omega.{arith}
 use lib.Pow.{pow_mono}
 use Rattle.rules.specs.Boundaries.{value}
 use Rattle.theorems.proofs.Widths.{Sound}
-use Rattle.diyfp.specs.Pairs.{Near}
-use Rattle.grisu.proofs.Scaling.{upper_factor, lower_factor, value_factor, power_near, shiftable, upper_read, serves, Products, made, one_less, one_more, ordered, shift_fits, shift_natural, shift_small, scales_to}
+use Rattle.diyfp.specs.Pairs.{Factor}
+use Rattle.grisu.proofs.Scaling.{upper_near, lower_near, value_near, power_factor, shiftable, upper_read, serves, Products, made, one_less, one_more, ordered, shift_fits, shift_natural, shift_small, scales_to}
 use Rattle.grisu.proofs.scale.Given.{Over}
 use Rattle.grisu.proofs.scale.Goals as goal
 use Rattle.grisu.proofs.scale.Goals.{After-normalized_boundaries-b, After-get_cached_power-c, After-times-wm}
@@ -12,12 +12,12 @@ use Rattle.grisu.proofs.scale.Goals.{After-normalized_boundaries-b, After-get_ca
 sound : (g : Over) → Sound g.P.Pattern.width g.P.Pattern.digits
 sound g = g.met.P.Pattern.printable.sound
 
--- The power's exponent is near zero.
-power : (g : Over) (c : After-get_cached_power-c g) → Near c.get_cached_power-c.result.power.e
+-- The power is a factor.
+power : (g : Over) (c : After-get_cached_power-c g) → Factor g.P.Pattern.width c.get_cached_power-c.result.power
 power g c =
     let small = g.met.P.Pattern.small in
     let plus = c.normalized_boundaries-b.ensures.plus _ c.from_bits-v.ensures in
-    power_near (sound g) small c.requires (c.get_cached_power-c.ensures _ (upper_read (sound g) small c.requires plus))
+    power_factor (sound g) small c.requires (c.get_cached_power-c.ensures _ (upper_read (sound g) small c.requires plus))
 
 -- The three products.
 products : (g : Over) (c : After-times-wm g) →
@@ -38,15 +38,15 @@ normalize-requires g c = shiftable (sound g) g.met.P.Pattern.small c.requires c.
 pub times-w-requires : goal.times-w-requires
 unfolding value
 times-w-requires g c =
-    (value_factor (sound g) g.met.P.Pattern.small c.requires (c.normalize.ensures _ c.from_bits-v.ensures), power g (goal.at.times-w-requires g c).After-get_cached_power-c)
+    (value_near (sound g) g.met.P.Pattern.small c.requires (c.normalize.ensures _ c.from_bits-v.ensures), power g (goal.at.times-w-requires g c).After-get_cached_power-c)
 
 pub times-wp-requires : goal.times-wp-requires
 times-wp-requires g c =
-    (upper_factor (sound g) g.met.P.Pattern.small c.requires (c.normalized_boundaries-b.ensures.plus _ c.from_bits-v.ensures), power g (goal.at.times-wp-requires g c).After-get_cached_power-c)
+    (upper_near (sound g) g.met.P.Pattern.small c.requires (c.normalized_boundaries-b.ensures.plus _ c.from_bits-v.ensures), power g (goal.at.times-wp-requires g c).After-get_cached_power-c)
 
 pub times-wm-requires : goal.times-wm-requires
 times-wm-requires g c =
-    (lower_factor (sound g) g.met.P.Pattern.small c.requires (c.normalized_boundaries-b.ensures.minus _ c.from_bits-v.ensures), power g (goal.at.times-wm-requires g c).After-get_cached_power-c)
+    (lower_near (sound g) g.met.P.Pattern.small c.requires (c.normalized_boundaries-b.ensures.minus _ c.from_bits-v.ensures), power g (goal.at.times-wm-requires g c).After-get_cached_power-c)
 
 pub overflow_sub-h : goal.overflow_sub-h
 overflow_sub-h g c = one_less (sound g) g.met.P.Pattern.small _ (products g (goal.at.overflow_sub-h g c).After-times-wm)

@@ -17,7 +17,7 @@ bits g c =
     cast _ _ is (omega (arith, is, g.met.P.Pattern.small.sum))
 
 exponents : (g : Over) (c : After-PAIR-2 g) → Sum c.args.self.e c.args.rhs.e g.P.Pattern.width.N
-exponents g c = sums _ (omega (arith, g.met.P.Pattern.small.sum)) c.requires.0.near c.requires.1
+exponents g c = sums _ (omega (arith, g.met.P.Pattern.small.sum)) c.requires.0 c.requires.1.near
 
 pub overflow_add-result-3 : goal.overflow_add-result-3
 overflow_add-result-3 g c = rw (bits g c) (exponents g c).twice
@@ -28,6 +28,6 @@ returns g c =
     record {
       significand =
           rw (c.PAIR.ensures, n.pair_is)
-          (product_is g.P.Pattern.width g.met.P.Pattern.printable.sound.dropped n.product c.args.self.f c.args.rhs.f c.requires.0.fits);
+          (product_is g.P.Pattern.width g.met.P.Pattern.printable.sound.dropped n.product c.args.self.f c.args.rhs.f c.requires.1.fits);
       exponent = rw (bits g c) (exponents g c).whole;
     }
