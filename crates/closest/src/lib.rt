@@ -7,13 +7,6 @@ ghost use Rattle.rules.specs.Reading.{infinity, low, nearest};
 
 use patterns::Pattern;
 
-// The hidden bit of a width's significands.
-pub fn hidden_bit<P: Pattern>() -> u64
-    ensures { result ≡ 2 ^ P.width.S }
-{
-    1 << P::FRACTION
-}
-
 // The pattern of a width's infinity.
 pub fn infinity<P: Pattern>() -> u64
     ensures { result ≡ infinity P.width }

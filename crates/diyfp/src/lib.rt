@@ -34,20 +34,13 @@ pub struct CachedPower {
     pub k: i32,
 }
 
-// The bit that a pattern's significand leaves out.
-fn hidden_bit<P: Pattern>() -> u64
-    ensures { result ≡ 2 ^ P.width.S }
-{
-    1 << P::FRACTION
-}
-
 impl DiyFp {
     // The magnitude of a finite pattern.
     pub fn from_bits<P: Pattern>(pattern: P) -> DiyFp
         ensures { Stands P.width (magnitude P.width (P.number pattern)) result }
     {
         let bits = pattern.bits();
-        let hidden = hidden_bit::<P>();
+        let hidden = patterns::hidden_bit::<P>();
         let least_e = 0 - (P::BIAS + P::FRACTION) as i32;
         let biased_e = ((bits >> P::FRACTION) & P::ONES as u64) as i32;
         let significand = bits & (hidden - 1);
@@ -82,7 +75,7 @@ impl DiyFp {
         requires { StandsIn P.width (Finite P.width) self }
         ensures { Becomes P.width (below P.width) self result }
     {
-        let hidden = hidden_bit::<P>();
+        let hidden = patterns::hidden_bit::<P>();
         if self.f == hidden {
             return DiyFp {
                 f: (self.f << 2) - 1,

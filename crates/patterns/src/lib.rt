@@ -148,3 +148,10 @@ impl Pattern for u64 {
 
     ghost spanned = { spanned64 };
 }
+
+// The bit that a pattern's significand leaves out.
+pub fn hidden_bit<P: Pattern>() -> u64
+    ensures { result ≡ 2 ^ P.width.S }
+{
+    1 << P::FRACTION
+}

@@ -22,7 +22,7 @@ fn midpoint_above<P: Pattern>(p: u64) -> Midpoint
     requires { p < infinity P.width }
     ensures { Middle P.width p result.m result.twos }
 {
-    let hidden = closest::hidden_bit::<P>();
+    let hidden = patterns::hidden_bit::<P>();
     let field = p / hidden;
     if field == 0 {
         return Midpoint {
