@@ -24,7 +24,7 @@ pub record Handy (w : Width) (m : ℕ) : Type 0 where
   pub tested : T (up_to (test w m) (all_ones w + w.S + 1))
 
 -- At each of the 279 exponents of 32 bits ..
-pub handy32 : Handy w32 512
+pub handy32 : Handy w32 64
 unfolding w32 off all_ones
 handy32 = record { few = lit≤ tt; whole = lit≤ tt; tested = tt }
 

@@ -13,14 +13,15 @@ pub record Tabled (w : Width) (tens twos start : ℕ) : Type 0 where
   pub twos_is : twos ≡ w.twos
   pub begins : start ≤ 2 ^ 13
   pub on_line : T (up_to (test w start) (length w.significands))
-  pub handy : Handy w 512
+  pub whole : ℕ
+  pub handy : Handy w whole
 
 -- Binary32's ..
 pub tabled32 : Tabled w32 36 151 3363
 unfolding w32 raised significands32 exponents32
-tabled32 = record { tens_is = refl; twos_is = refl; begins = lit≤ tt; on_line = tt; handy = handy32 }
+tabled32 = record { tens_is = refl; twos_is = refl; begins = lit≤ tt; on_line = tt; whole = 64; handy = handy32 }
 
 -- .. and binary64's.
 pub tabled64 : Tabled w64 348 1220 7938
 unfolding w64 raised significands64 exponents64
-tabled64 = record { tens_is = refl; twos_is = refl; begins = lit≤ tt; on_line = tt; handy = handy64 }
+tabled64 = record { tens_is = refl; twos_is = refl; begins = lit≤ tt; on_line = tt; whole = 512; handy = handy64 }
