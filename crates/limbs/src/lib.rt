@@ -113,7 +113,8 @@ fn load_digits(a: &mut [u32], digits: &[u8])
     }
 }
 
-// How a stands to b, by the highest limb in which they differ.
+// How a stands to b, by the highest limb in which they differ. It goes by places, since no law tells of the lists of two iterators what their
+// `cmp` does.
 fn compare(a: &[u32], b: &[u32]) -> Ordering
     requires { length a.now ≡ length b.now }
     ensures { Stands result (total a.now) (total b.now) }

@@ -1,6 +1,6 @@
 -- `limbs::mul_add` meets its contract: the limbs passed and the carry are the product of those that were there. Assumes nothing.
 use Rattle.std.proofs.Common.{◌^◌, ◌<◌, get_or, add-one, arith}
-use Rattle.limbs.proofs.Product.{begin, step, fits, finished}
+use Rattle.limbs.proofs.Product.{begin, step, finished}
 use Rattle.limbs.proofs.mul_add.Goals as goal
 use Rattle.limbs.proofs.mul_add.Goals.{After-from-in-loop-limb}
 
@@ -9,12 +9,6 @@ limb c = omega arith
 
 pub loop-limb-init : goal.loop-limb-init
 loop-limb-init c = rw c.from-carry.ensures (begin _ _ _ (omega arith))
-
-pub overflow_add-t : goal.overflow_add-t
-overflow_add-t c =
-    let l = c.loop-limb in
-    rw (c.from.ensures, c.from-in-loop-limb.ensures)
-    (record { fits = fits (get_or l.a l.limb-index 0) c.args.m l.carry (limb c) (omega arith) l.invariant.small })
 
 pub loop-limb-preserved : goal.loop-limb-preserved
 loop-limb-preserved c =

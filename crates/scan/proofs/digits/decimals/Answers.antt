@@ -1,14 +1,8 @@
 -- `scan::digits::decimals` meets its contract: eight by eight, to the end, then one by one. Assumes nothing.
 use Rattle.std.proofs.Common.{[], arith}
-use Rattle.scan.proofs.Passing.{ends_then, starts_end}
+use Rattle.scan.proofs.Passing.{starts_end}
 use Rattle.scan.proofs.Going.{then}
 use Rattle.scan.proofs.digits.decimals.Goals as goal
-
-pub ending-requires : goal.ending-requires
-ending-requires c = ends_then c.requires.0 c.eights-front.ensures.ends
-
-pub digits-requires : goal.digits-requires
-digits-requires c = omega (arith, c.eights-front.ensures.few)
 
 pub returns-in-Some : goal.returns-in-Some
 returns-in-Some c =

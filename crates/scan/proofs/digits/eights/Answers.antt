@@ -13,6 +13,3 @@ loop-held-preserved c =
     let t = c.loop-held.rest.now in
     subst (λ (u : List ℕ). Goes c.args.text.now c.args.start u c.longer-held.result) (sym (take_rest t 8))
     (then c.loop-held.invariant (over 8 c.in-Some.ensures.2 (omega (arith, c.longer-held.ensures.0)) c.longer-held.ensures.1))
-
-pub returns : goal.returns
-returns c = c.loop-held.invariant

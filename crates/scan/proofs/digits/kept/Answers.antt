@@ -11,9 +11,6 @@ use Rattle.scan.proofs.digits.kept.Goals.{else-loop-digits-test, then-loop-digit
 pub loop-digits-init : goal.loop-digits-init
 loop-digits-init c = stays
 
-pub overflow_add-digits : goal.overflow_add-digits
-overflow_add-digits c = let few = digit_range _ c.in-Some.ensures.0 in omega (arith, c.in-Some.ensures.1)
-
 pub loop-digits-preserved : goal.loop-digits-preserved
 loop-digits-preserved c =
     let t = c.loop-digits.rest.now in
@@ -22,9 +19,6 @@ loop-digits-preserved c =
     subst (λ (u : List ℕ). Goes c.args.text.now c.args.start u (with_digits c.args.start (c.loop-digits.digits * 10 + c.in-Some.digit))) (sym (take_rest t 1))
     (then c.loop-digits.invariant
     (over 1 (one t 0 c.in-Some.digit (omega arith) digit.0 digit.1) (omega arith) (λ a k. longer k 10 c.in-Some.digit (omega arith) (omega (arith, digit.1)))))
-
-pub returns-clause-goes : goal.returns-clause-goes
-returns-clause-goes c = c.loop-digits.invariant
 
 pub returns-clause-ends : goal.returns-clause-ends
 returns-clause-ends c =
