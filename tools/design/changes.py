@@ -5,9 +5,7 @@ usage: python3 tools/design/changes.py OLD [NEW]     two folders `crates`, or co
 A function, type or definition that differs in the width alone (32 or 64 in its name) is held against the one that has no width.
 NAMES says what else went into what; an empty name says that it is gone.
 """
-import collections
 import glob
-import html
 import os
 import re
 import subprocess
@@ -55,6 +53,143 @@ NAMES = {
     "reader::tabled64": "reader::magnitude",
     "reader::infinite": "closest::infinity",
     "reader::sign_bit": "reader::signed",
+}
+
+
+NOW = {
+    # functions and types
+    "closest::Target": "the constants of `Pattern` (`patterns`)",
+    "closest::binary32": "`Pattern` of `u32`, and its law `numbers`",
+    "closest::binary64": "`Pattern` of `u64`, and its law `numbers`",
+    "fast::Quick": "`Option<u64>`",
+    "layout::magnitude": "`i32::unsigned_abs`",
+    "limbs::Order": "`std::cmp::Ordering`",
+    "limbs::five_power": "`u32::pow`",
+    "limbs::ends": "the patterns in `next_chunk`, which says `Chunked`",
+    "limbs::over": "`u32::saturating_sub`",
+    "print::Cursor": "`lines::Line`",
+    "print::with_byte": "`Line::push`, which says what is kept",
+    "print::said": "`hexline::parse` of `Line::bytes`",
+    "print::with_line_end": "`show`, which writes no more than its buffer has",
+    "print::print32": "`show`",
+    "print::print64": "`show`",
+    "print::next_number": "`Line::next`",
+    "print::take_all": "`take`",
+    "print::read_some": "`print_all`",
+    "print::read_all": "`print_all`",
+    "read::Cursor": "`lines::Line`",
+    "read::with_byte": "`Line::push`, which says what is kept",
+    "read::text_length": "`text`, a part of the line",
+    "read::hex_digit": "the format `{:08x} {:016x}` in `finish`",
+    "read::put": "the same format",
+    "read::put_hex": "the same format",
+    "read::show": "the same format",
+    "read::read_text": "`finish`",
+    "read::next_number": "`Line::next`",
+    "read::take_all": "`take`",
+    "read::read_some": "`read_all`",
+    "reader::behind_sign": "`usize::from`; `from_sign` says what stands there",
+    "reader::narrowed": "`Pattern::pattern`",
+    "replay::expected": "`starts_with` and `all` in `holds`",
+    "replay::before_space": "`Iterator::position`",
+    "replay::counted": "`compare`",
+    "replay::prints32": "`prints`",
+    "replay::prints64": "`prints`",
+    "scan::is_digit": "`u8::is_ascii_digit`; `ascii` says that it is the rules'",
+    "scan::push": "`kept` and `dropped`, which say `Goes` and `Reaches`",
+    "scan::end_of_18": "`usize::min`",
+    "scan::half_at": "`u64::from_le_bytes`",
+    "scan::word_at": "`u64::from_le_bytes`; `read_word` says that it is the word",
+    "scan::begins_at": "the patterns in `sign`, `number` and `raised`",
+    "scan::is_word": "`==` of slices; `compared` says that it is the rules' `same`",
+    "settle::even_of": "`p + p % 2` in `settle`",
+    "tens::Four": "the array `POWERS`",
+    "tens::four_of": "the array `POWERS`; `of_table` says `Leading` of each entry",
+    # definitions
+    "closest::Targets": "`Numbers` (`patterns`), a law of each kind of patterns",
+    "closest::Sized": "`Numbers` (`patterns`)",
+    "hexline::all_digits": "`number_from`, which is none where a byte is no digit",
+    "hexline::value_from": "`number_from`",
+    "limbs::Goes": "`Chunked`",
+    "limbs::Ends": "`Chunked`",
+    "powers::Cached": "`Cached` of `diyfp`, of the code's `CachedPower`",
+    "reader::decimal": "the code's `Decimal`",
+    "reader::Behind": "the lemma `from_sign`",
+    "reader::Tabled": "`first` and `last` of `Scaled`, and `Untabled`",
+    "reader::told32": "`told`, at `u32`",
+    "reader::told64": "`told`, at `u64`",
+    "tens::Fours": "`Leading`, of each entry",
+    # lemmas
+    "bounds::open_few": "nothing cited it",
+    "diyfp::above_fits": "the check finds it",
+    "diyfp::falls": "the check finds it",
+    "diyfp::near_read": "nothing cited it: `Scaling` of `grisu` says what was said of the chain",
+    "diyfp::Multiplied": "`Products` of `grisu`",
+    "diyfp::is_finite": "the check finds it",
+    "diyfp::is_shiftable": "`shiftable` of `grisu`",
+    "diyfp::is_served": "`serves` of `grisu`",
+    "diyfp::pair_near": "`upper_near`, `lower_near`, `value_near` of `grisu`",
+    "diyfp::entry_near": "`power_factor` of `grisu`",
+    "diyfp::decimal_near": "`reread` of `grisu`",
+    "diyfp::multiplied": "`made` of `grisu`",
+    "diyfp::product_near": "`shift_held` of `grisu`",
+    "diyfp::field": "`exponent_field`, `significand_field`",
+    "diyfp::masked_field": "`exponent_field`",
+    "diyfp::masked_sum": "`above_least`",
+    "diyfp::Unbiased": "`above_least`",
+    "diyfp::unbiased": "`above_least`",
+    "diyfp::Equal": "an equation of the code's pairs",
+    "dtoa_c::numbers_of": "the laws `printed` and `refused` of `Numbered`",
+    "fast::whole_fits": "the check finds it",
+    "fast::none_off": "the check finds it",
+    "grisu::power_near": "`power_factor`",
+    "hexline::below_digits": "the check finds it",
+    "hexline::decimal_digit": "the check finds it",
+    "hexline::above_digits": "the check finds it",
+    "hexline::capital_digit": "the check finds it",
+    "hexline::above_capitals": "the check finds it",
+    "hexline::small_digit": "the check finds it",
+    "hexline::above_all": "the check finds it",
+    "hexline::digits_from": "`ends` and `read_on`",
+    "hexline::value_from_lem": "`read_on`, the same step of `number_from`",
+    "hexline::digits_end": "`read_end`",
+    "hexline::value_end": "`read_end`",
+    "hexline::digit_less": "`less` of `hex_digit`",
+    "hexline::first_fails": "`ends`",
+    "hexline::first_holds": "`read_on`",
+    "limbs::below_digits": "`at_other`",
+    "limbs::from_digits": "`at_other`",
+    "limbs::ended": "the check finds it",
+    "powers::Floors": "nothing cited it",
+    "powers::floors": "nothing cited it",
+    "scan::none_counted": "the check finds it",
+    "scan::bounded": "`Power`, which `Raises` says of a number",
+    "scan::loads": "`read_word`",
+    "scan::both": "`read_word`",
+    "scan::starts_at": "`starts_byte`, `starts_end`",
+    "scan::ends_at": "`ends_all`",
+    "scan::beside": "`ends_drop`",
+    "scan::leaves": "`raised_end`, `raised_exponent`",
+    "scan::mantissa_end": "`raised_end`",
+    "scan::decimals_other": "`raised_other`",
+    "scan::begins_end": "`not_begun`",
+    "scan::begins_inside": "`behind_byte`",
+    "scan::begins_is": "`behind_byte`",
+    "scan::positive_at": "`positive_head`",
+    "scan::no_exponent": "the case None of `Raises`",
+    "scan::signed-exponent": "`behind`",
+    "scan::twos_most": "nothing cited it",
+    "scan::fours_most": "nothing cited it",
+    "scan::unspelled": "the case None of `spelled`",
+    "scan::other_length": "`compared`",
+    "scan::three": "`compared`",
+    "scan::reads_infinite": "`reads_word`",
+    "scan::reads_nothing": "`reads_word`",
+    "settle::significand_few": "the check finds it",
+    "settle::at_first": "the check finds it",
+    "settle::at_infinity": "`at_last`, of the lesser of the two ends",
+    "tens::row": "`all_from`",
+    "tens::moved": "`all_from`",
 }
 
 
@@ -113,7 +248,8 @@ def terms(crates, kind):
     found = {}
     for path in sorted(glob.glob(crates + "/*/" + kind + "/*.antt")):
         crate = path.split("/")[-3]
-        for part in re.split(r"\n(?=\S)|\n *\n", open(path).read()):
+        # a definition goes on to the next blank line, a statement to the next line that is not indented
+        for part in re.split(r"\n *\n" if kind == "specs" else r"\n(?=\S)|\n *\n", open(path).read()):
             part = "\n".join(l for l in part.split("\n") if not re.match(r" *--", l))
             name = re.match(r"\s*(?:unfoldable |abbrev )*pub (?:record |data )?([^\s{(:]+)", part)
             if not name or re.match(r"\s*(?:pub )?(mod|use|module) ", part):
@@ -128,7 +264,13 @@ def cell(text):
     return "`" + text.replace("|", "\\|").replace("`", "'") + "`" if text else "–"
 
 
-def table(title, before, after, mapped):
+def stands(name, texts):
+    """Where a lemma of this name stands now, in another crate or for its own file alone."""
+    word = re.compile(r"^ *(?:unfoldable |abbrev )*(?:pub )?(?:record |data )?" + re.escape(name) + r" [:({]", re.M)
+    return next((place for place, text in texts if word.search(text)), None)
+
+
+def table(title, before, after, mapped, texts=()):
     rows, gone, used = [], [], set()
     for name, text in before.items():
         to = NAMES.get(name) if mapped else None
@@ -151,20 +293,26 @@ def table(title, before, after, mapped):
         for name, old, to, text in rows:
             shown = name if name == to else name + " → " + to
             print("| " + shown.replace("::", "::&#8203;") + " | " + cell(old) + " | " + cell(text) + " |")
-    for word, which in (("Gone", gone), ("New", new)):
-        if which:
-            print("\n" + word + ":\n")
-            for name, text in which:
-                print("- " + cell(text) + " (" + name.split("::")[0] + ")" if kind_short(title) else "- " + cell(name))
-
-
-def kind_short(title):
-    return "lemma" not in title.lower()
+    if gone:
+        print("\n| gone | what says it now |\n|---|---|")
+        for name, text in gone:
+            place = stands(name.split("::")[-1], texts)
+            shown = cell(name) if mapped is None else name.split("::")[0] + ": " + cell(text)
+            print("| " + shown + " | " + (NOW.get(name) or (place and "stands in " + place) or "?") + " |")
+    if new and mapped is None:
+        print("\nNew: " + ", ".join(cell(name) for name, _ in new) + ".")
+    elif new:
+        print("\nNew:\n")
+        for name, text in new:
+            print("- " + name.split("::")[0] + ": " + cell(text))
 
 
 if __name__ == "__main__":
     old = folder(sys.argv[1])
     new = folder(sys.argv[2] if len(sys.argv) > 2 else "crates")
-    table("Functions and types", items(old), items(new), True)
-    table("Definitions", terms(old, "specs"), terms(new, "specs"), False)
-    table("Lemmas", terms(old, "proofs"), terms(new, "proofs"), False)
+    texts = []
+    for path in sorted(glob.glob(new + "/*/specs/*.antt") + glob.glob(new + "/*/proofs/*.antt")):
+        texts.append(("`crates/" + "/".join(path.split("/")[-3:]) + "`", open(path).read()))
+    table("Functions and types", items(old), items(new), True, texts)
+    table("Definitions", terms(old, "specs"), terms(new, "specs"), False, texts)
+    table("Lemmas", terms(old, "proofs"), terms(new, "proofs"), None, texts)

@@ -14,7 +14,8 @@ use dtoa::Refusal;
 pub mod reads;
 pub mod rows;
 
-// An answer: 0 and the length of the text, or the number of a refusal and 0.
+// An answer: 0 and the length of the text, or the number of a refusal and 0. C has neither `Result` nor type parameters: so the refusals have
+// numbers here, and each width a function.
 #[repr(C)]
 #[derive(Clone, Copy)]
 pub struct DtoaPrinted {

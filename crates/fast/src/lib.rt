@@ -24,7 +24,8 @@ const FIRST: u32 = 10078;
 
 const LAST: u32 = 10122;
 
-// 10^k, which binary64 has up to 10^22.
+// 10^k, which binary64 has up to 10^22. Written out, since no call of the library says that what it answers is exact; and the bound stands
+// in three contracts, since a type for it would hold one number that each caller makes and takes apart.
 fn ten(k: u32) -> f64
     requires { k ≤ 22 }
     ensures { HasValue result false (10 ^ k) 1 }
@@ -97,7 +98,8 @@ fn trim(digits: u64, place: u32) -> Trimmed
     t
 }
 
-// The nearest pattern to digits at a place, where both are exact, and so one multiplication or division finds it.
+// The nearest pattern to digits at a place, where both are exact, and so one multiplication or division finds it. They come apart from the
+// scan: in a struct each caller would put them together for this call alone.
 pub fn quickly(digits: u64, place: u32) -> Option<u64>
     requires { place ≤ 30000 }
     ensures { IfSome result (λ v. Finds w64 digits place v) }

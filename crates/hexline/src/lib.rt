@@ -11,7 +11,7 @@ pub enum Pattern {
     Double(u64),
 }
 
-// The value of a hex digit.
+// The value of a hex digit. By hand, since the library reads digits of base 16 from texts alone, and takes a sign before them.
 #[tactic(auto, unfolding(crate::specs::Hex::digit))]
 fn hex_digit(b: u8) -> Option<u8>
     ensures value { result ≡ digit b }

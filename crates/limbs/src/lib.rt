@@ -41,7 +41,8 @@ fn times_fives(a: &mut [u32], n: u32)
     mul_add(a, 5u32.pow(n % 13), 0);
 }
 
-// a * 5^fives * 2^twos, of fewer twos than a limb has.
+// a * 5^fives * 2^twos, of fewer twos than a limb has. The bound stands in three contracts and not in `Factor`, which has more twos before whole
+// limbs are left out; and the limbs are lent, as a buffer is, so that no struct holds them.
 fn scale(a: &mut [u32], by: Factor)
     requires twos_bound { by.twos < 32 }
     requires product_fits { times (total a.old) by < room a.old }

@@ -42,6 +42,9 @@ fn finish(rt: &(impl Print + Eprint), line: &Line) -> io::Result<()> {
     }
 }
 
+// The next two functions stand in the program `read` too, but for a test: shared, they would be public, and no contract could say what an
+// input brings.
+
 // Takes the bytes that one read brought, up to the first write that fails. A carriage return stands only before a line end, and is no
 // part of a line.
 fn take(rt: &(impl Print + Eprint), line: &mut Line, bytes: &[u8]) -> io::Result<()> {

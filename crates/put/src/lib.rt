@@ -7,6 +7,9 @@ ghost use Rattle.laws.specs.Puts.{Puts};
 ghost use Rattle.rules.specs.Bytes.{byte0};
 ghost use Rattle.rules.specs.Layout as rules;
 
+// A buffer and a place travel together here, and no struct holds them: with the lent buffer in a field, each method would have to say that the
+// field keeps its reference, and what it left behind it only at the struct's end.
+
 // Puts a byte at a place, and answers the place behind it.
 pub fn byte(buf: &mut [u8], at: usize, b: u8) -> usize
     requires { at < length buf.old }

@@ -71,7 +71,8 @@ fn scaled(digits: u64, place: u32) -> Option<Product>
     }
 }
 
-// The pattern without a sign that a number reads as, by both ends of its product, and where those differ by exact comparison.
+// The pattern without a sign that a number reads as, by both ends of its product, and where those differ by exact comparison. What is known
+// of the text stands in three contracts: a struct of a text and its number would be taken apart in each.
 fn compared<P: Pattern>(text: &[u8], x: Decimal, p: Product) -> u64
     requires says { (0 < length text.now) × (length text.now ≤ 64) × Says text.now x }
     requires scaled { Scaled x.held.digits x.place p.upper p.exponent }

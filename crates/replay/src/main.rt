@@ -57,7 +57,8 @@ fn next_byte(file: &mut impl Read) -> Option<u8> {
     }
 }
 
-// Reads a line, and answers how many bytes it has. The list has no empty line, so one that has none is its end.
+// Reads a line, and answers how many bytes it has. The list has no empty line, so one that has none is its end. The buffer is fixed, so that a
+// line of any length takes no memory: what is longer is read as more lines.
 fn read_line(file: &mut impl Read, line: &mut [u8]) -> Option<usize>
     ensures { IfSome result (λ n. (n ≤ length line.new) × (n ≡ length (take n line.new))) }
 {

@@ -49,7 +49,8 @@ fn all_of(digits: u64) -> Held
     }
 }
 
-// 10^n, by a table: with `pow`, which is a loop, a short number takes a fifth longer to read.
+// 10^n, by a table: with `pow`, which is a loop, a short number takes a fifth longer to read. The crate `places` has a shorter table, whose
+// bound refuses its edit `distance_from_nine_mended`.
 fn ten_to(n: usize) -> u64
     requires { n ≤ 18 }
     ensures { result ≡ 10 ^ n }

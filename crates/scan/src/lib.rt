@@ -47,7 +47,8 @@ fn finished(run: Run<'_>, n: usize, negative: bool) -> Option<Decimal>
     })
 }
 
-// The number of a text that begins with a digit behind its sign.
+// The number of a text that begins with a digit behind its sign. That a text has 64 bytes at most stands where digits are counted, in three
+// contracts: no struct holds a text with it, since every function below takes what is left of one.
 fn number(text: &[u8], x: Signed<'_>) -> Option<Decimal>
     requires { Signs text.now x.negative x.rest.now × (length text.now ≤ 64) × (starts x.rest.now ≡ true) }
     ensures { Tells (unsigned x.entry.rest.now) (mantissa 0 x.entry.rest.now) x.entry.negative result }
