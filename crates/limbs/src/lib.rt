@@ -181,7 +181,8 @@ fn bits(width: u32, by: Factor) -> u32
     width + 7 * (by.fives / 3 + 1) + by.twos
 }
 
-// How a text's digits, as one number, times the one factor stand to m times the other. The twos that both have are left out.
+// How a text's digits, as one number, times the one factor stand to m times the other. The twos that both have are left out. Two
+// fixed arrays hold the limbs, since nothing here takes memory; what is used of each is handed on as a slice.
 pub fn against(digits: &[u8], by: Factor, m: u64, other: Factor) -> Ordering
     requires { (length digits.now ≤ 64) × (by.fives ≤ 320) × (other.fives ≤ 410) × (by.twos ≤ 1400) × (other.twos ≤ 2500) }
     ensures { Stands result (times (mantissa 0 digits.now) by) (times m other) }

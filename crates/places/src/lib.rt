@@ -30,7 +30,7 @@ pub fn count_decimal_digit32(n: u32) -> usize
     }
 }
 
-// 10^kappa.
+// 10^kappa, by a table, since the library's `pow` is a loop.
 pub fn pow10(kappa: usize) -> u64
     requires { kappa < 9 }
     ensures { result ≡ 10 ^ kappa }

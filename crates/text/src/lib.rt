@@ -48,7 +48,7 @@ fn magnitude<P: Powers>(pattern: P, buf: &mut [u8]) -> usize
     layout::prettify(buf, d.len, d.k)
 }
 
-// Puts the text of a pattern, and answers its length.
+// Puts the text of a pattern, and answers its length. The pattern and the buffer stay apart, since the buffer is lent, as in `put`.
 pub fn print<P: Powers>(pattern: P, buf: &mut [u8]) -> usize
     requires { 25 ≤ length buf.old }
     ensures { Puts (text P.width (P.number pattern)) buf.old 0 buf.new result }
