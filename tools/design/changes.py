@@ -188,6 +188,22 @@ NOW = {
     "settle::significand_few": "the check finds it",
     "settle::at_first": "the check finds it",
     "settle::at_infinity": "`at_last`, of the lesser of the two ends",
+    "diyfp::once": "`above_least`",
+    "diyfp::twice": "`above_least`",
+    "hexline::next_digit": "`read_on`",
+    "limbs::begin": "the check finds it",
+    "limbs::step": "the check finds it, and `decided`",
+    "powers::cached": "`cached` of `diyfp`, of the code's `CachedPower`",
+    "powers::adds": "nothing cited it",
+    "powers::natural": "nothing cited it",
+    "powers::small": "nothing cited it",
+    "powers::test": "`test` of `crates/powers/specs/Lines.antt`",
+    "scan::ten_to": "`places::pow10`",
+    "scan::refuses": "the case None of `Raises`",
+    "scan::decimals_end": "`raised_end`",
+    "scan::negative_at": "`negative_head`",
+    "settle::hidden_some": "the check finds it",
+    "tens::all": "`all_from`",
     "tens::row": "`all_from`",
     "tens::moved": "`all_from`",
 }
@@ -243,34 +259,44 @@ def items(crates):
     return found
 
 
+DECLARED = re.compile(r"( *)((?:unfoldable |abbrev )*)(pub )?(?:record |data )?([^\s:({=]+) *(?=[:({]|$)")
+
+
 def terms(crates, kind):
-    """Definitions of specs or statements of proofs, by crate and name."""
-    found = {}
+    """Definitions of specs, or statements of proofs, by crate, file and name: the public ones, and all."""
+    public, every = {}, {}
     for path in sorted(glob.glob(crates + "/*/" + kind + "/*.antt")):
-        crate = path.split("/")[-3]
-        # a definition goes on to the next blank line, a statement to the next line that is not indented
-        for part in re.split(r"\n *\n" if kind == "specs" else r"\n(?=\S)|\n *\n", open(path).read()):
-            part = "\n".join(l for l in part.split("\n") if not re.match(r" *--", l))
-            name = re.match(r"\s*(?:unfoldable |abbrev )*pub (?:record |data )?([^\s{(:]+)", part)
-            if not name or re.match(r"\s*(?:pub )?(mod|use|module) ", part):
+        place = path.split("/")[-3] + "::" + os.path.basename(path)[:-5] + "::"
+        lines = [l for l in open(path).read().split("\n") if not re.match(r" *--", l)]
+        i = 0
+        while i < len(lines):
+            head = DECLARED.match(lines[i])
+            words = ("use", "pub", "mod", "module", "let", "rw", "elim", "where", "unfolding", "in", "|", "record", "}", "{")
+            if not head or head.group(4) in words or re.match(r" *(?:pub )?(?:mod|use|module) ", lines[i]):
+                i += 1
                 continue
-            if kind == "proofs":
-                part = re.split(r"\n *(?:unfolding\b|" + re.escape(name.group(1)) + r"(?=[\s=]))", part, maxsplit=1)[0]
-            found.setdefault(crate + "::" + name.group(1), flat([part]))
-    return found
+            if not (head.group(3) or head.group(2) or re.match(r" *\S+ : ", lines[i]) or re.match(r" *(?:record|data) ", lines[i])):
+                i += 1
+                continue
+            indent, j = len(head.group(1)), i + 1
+            while j < len(lines) and lines[j].strip():
+                deeper = len(lines[j]) - len(lines[j].lstrip()) > indent
+                if not deeper and (kind == "proofs" or not lines[j].lstrip().startswith(head.group(4) + " ")):
+                    break
+                j += 1
+            text = flat(lines[i:j])
+            every[place + head.group(4)] = text.replace("pub ", "", 1)
+            if head.group(3):
+                public[place + head.group(4)] = text
+            i = j if kind == "specs" or " record " in " " + lines[i] else i + 1
+    return public, every
 
 
 def cell(text):
     return "`" + text.replace("|", "\\|").replace("`", "'") + "`" if text else "–"
 
 
-def stands(name, texts):
-    """Where a lemma of this name stands now, in another crate or for its own file alone."""
-    word = re.compile(r"^ *(?:unfoldable |abbrev )*(?:pub )?(?:record |data )?" + re.escape(name) + r" [:({]", re.M)
-    return next((place for place, text in texts if word.search(text)), None)
-
-
-def table(title, before, after, mapped, texts=()):
+def table(title, before, after, mapped):
     rows, gone, used = [], [], set()
     for name, text in before.items():
         to = NAMES.get(name) if mapped else None
@@ -296,23 +322,56 @@ def table(title, before, after, mapped, texts=()):
     if gone:
         print("\n| gone | what says it now |\n|---|---|")
         for name, text in gone:
-            place = stands(name.split("::")[-1], texts)
-            shown = cell(name) if mapped is None else name.split("::")[0] + ": " + cell(text)
-            print("| " + shown + " | " + (NOW.get(name) or (place and "stands in " + place) or "?") + " |")
-    if new and mapped is None:
-        print("\nNew: " + ", ".join(cell(name) for name, _ in new) + ".")
-    elif new:
+            print("| " + name.split("::")[0] + ": " + cell(text) + " | " + NOW.get(name, "?") + " |")
+    if new:
         print("\nNew:\n")
         for name, text in new:
             print("- " + name.split("::")[0] + ": " + cell(text))
 
 
+def lemmas(title, before, after, whole):
+    """Definitions or lemmas: what differs, what went, and what is new. `whole` has the ones of today that are not public too."""
+    public, every = after
+    names = {}
+    for name in list(public) + [n for n in every if n not in public] + list(whole):
+        names.setdefault(name.split("::")[0] + "::" + name.split("::")[-1], name)
+        names.setdefault(name.split("::")[-1], name)
+    texts = {**whole, **every}
+    rows, gone, same, met = [], [], [], set()
+    for name, text in before.items():
+        crate, _, short = name.split("::")
+        plain = text.replace("pub ", "", 1)
+        to = name if name in texts else names.get(crate + "::" + short)
+        if to is None and texts.get(names.get(short, "")) == plain:
+            to = names[short]
+        if to in met and to != name:
+            to = None
+        if to is None:
+            gone.append((crate + "::" + short, name, text))
+            continue
+        met.add(to)
+        if texts[to] != plain:
+            rows.append((name, text, to))
+        elif to != name:
+            same.append(name.replace("::", ".") + " → " + to.replace("::", "."))
+    print("\n### " + title + "\n")
+    print("| | before | now |\n|---|---|---|")
+    for name, text, to in rows:
+        print("| " + ".&#8203;".join((to if name.split("::")[0] == to.split("::")[0] else name + " → " + to).split("::")) + " | " + cell(text) + " | " + cell(texts[to]) + " |")
+    if same:
+        print("\nMoved as they are: " + ", ".join(same) + ".")
+    if gone:
+        print("\n| gone | what says it now |\n|---|---|")
+        for key, name, text in gone:
+            print("| " + name.replace("::", ".&#8203;") + " | " + (NOW.get(key) or NOW.get(name) or "?") + " |")
+    new = [name for name in public if name not in met and name not in before]
+    print("\nNew: " + ", ".join(name.replace("::", ".") for name in new) + ".")
+
+
 if __name__ == "__main__":
     old = folder(sys.argv[1])
     new = folder(sys.argv[2] if len(sys.argv) > 2 else "crates")
-    texts = []
-    for path in sorted(glob.glob(new + "/*/specs/*.antt") + glob.glob(new + "/*/proofs/*.antt")):
-        texts.append(("`crates/" + "/".join(path.split("/")[-3:]) + "`", open(path).read()))
-    table("Functions and types", items(old), items(new), True, texts)
-    table("Definitions", terms(old, "specs"), terms(new, "specs"), False, texts)
-    table("Lemmas", terms(old, "proofs"), terms(new, "proofs"), None, texts)
+    table("Functions and types", items(old), items(new), True)
+    specs, proofs = terms(new, "specs"), terms(new, "proofs")
+    lemmas("Definitions", terms(old, "specs")[0], specs, {})
+    lemmas("Lemmas", terms(old, "proofs")[0], proofs, specs[1])

@@ -10,7 +10,8 @@ ghost use Rattle.rules.specs.Layout as rules;
 ghost use Rattle.rules.specs.Layout.{exponent, layout};
 ghost use Rattle.layout.specs.Layout.{Laying};
 
-// Writes a number of up to three digits, and answers how many they are.
+// Writes a number of up to three digits, and answers how many they are. By hand: the library writes numbers through a formatter, of which the
+// proof of each byte would be longer than these lines.
 fn write_small(n: u32, buf: &mut [u8]) -> usize
     requires n_bound { n < 1000 }
     requires in_bounds { 3 ≤ length buf.old }

@@ -5,7 +5,8 @@ ghost use Rattle.std.specs.Prelude.{◌≡◌, ◌+◌, ◌*◌, ◌%◌, ◌^�
 ghost use Rattle.rules.specs.Digits.{falls, closer as isCloser};
 ghost use Rattle.places.specs.Places.{count_to_nine, measure, SplitAt, distance_under};
 
-// How many decimal digits n has; from 100,000,000 up it says 9.
+// How many decimal digits n has; from 100,000,000 up it says 9. By tests, as in the crate: the library's `ilog10` has none at 0, and 9 would have
+// to be tested for all the same.
 pub fn count_decimal_digit32(n: u32) -> usize
     ensures { result ≡ count_to_nine n }
 {
@@ -30,12 +31,12 @@ pub fn count_decimal_digit32(n: u32) -> usize
     }
 }
 
-// 10^kappa, by a table, since the library's `pow` is a loop.
-pub fn pow10(kappa: usize) -> u64
-    requires { kappa < 9 }
-    ensures { result ≡ 10 ^ kappa }
+// 10^n, by a table: with the library's `pow`, which is a loop, a short number takes a fifth longer to read.
+pub fn pow10(n: usize) -> u64
+    requires { n < 19 }
+    ensures { result ≡ 10 ^ n }
 {
-    match kappa {
+    match n {
         0 => 1,
         1 => 10,
         2 => 100,
@@ -44,7 +45,17 @@ pub fn pow10(kappa: usize) -> u64
         5 => 100000,
         6 => 1000000,
         7 => 10000000,
-        _ => 100000000,
+        8 => 100000000,
+        9 => 1000000000,
+        10 => 10000000000,
+        11 => 100000000000,
+        12 => 1000000000000,
+        13 => 10000000000000,
+        14 => 100000000000000,
+        15 => 1000000000000000,
+        16 => 10000000000000000,
+        17 => 100000000000000000,
+        _ => 1000000000000000000,
     }
 }
 
@@ -55,7 +66,8 @@ pub struct Split {
     pub back: u32,
 }
 
-// A number split before its last kappa digits.
+// A number split before its last kappa digits. Each arm divides by a constant: a division by `pow10(kappa)` is one that the processor takes
+// many times as long for.
 pub fn split_digits(p: u32, kappa: usize) -> Split
     requires { kappa < 9 }
     ensures { SplitAt p kappa result.front result.back }

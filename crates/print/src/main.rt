@@ -42,8 +42,8 @@ fn finish(rt: &(impl Print + Eprint), line: &Line) -> io::Result<()> {
     }
 }
 
-// The next two functions stand in the program `read` too, but for a test: shared, they would be public, and no contract could say what an
-// input brings.
+// The next two functions stand in the program `read` too, but for a test. Shared, they would be public, and every public function has to
+// ensure something: here no contract could say what an input brings.
 
 // Takes the bytes that one read brought, up to the first write that fails. A carriage return stands only before a line end, and is no
 // part of a line.

@@ -1,6 +1,6 @@
 -- What the library's ways to write a part of a list put there. Assumes nothing.
 use mathlib.Core.Path.{◌≡◌, refl, ap, ◌∙◌}
-use mathlib.Core.List.{List, [], ◌++◌, append_assoc}
+use mathlib.Core.List.{List, ◌++◌, append_assoc}
 use Prim.Native.Nat.{ℕ, ◌+◌, ◌-◌, ◌≤◌}
 use native.Mathlib.Omega.{arith}
 use lib.ListN.{length, take, drop, replicate, length-replicate, length-take, length-drop}
@@ -8,19 +8,14 @@ use lib.Seq.{drop-drop, slice, length-slice, paste}
 use Rattle.std.proofs.lemmas.Slice.{between_is}
 use borrow.Rule.Slice.PartMut.{put_mid}
 use Rattle.laws.specs.Puts.{placed, Puts}
-use Rattle.laws.proofs.Puts.{none}
 
 -- A list of n elements in the stead of those from a place on.
 within : {A : Type 0} (t out : List A) (at n : ℕ) → length t ≡ n → at + n ≤ length out → Puts t out at (take at out ++ (t ++ drop (at + n) out)) (at + n)
 unfolding placed
 within t out at n long room = record { room = omega (arith, long); behind = omega (arith, long); elements = rw long refl }
 
--- Nothing put yet, at the place where it begins.
-pub nothing : {A : Type 0} (out : List A) {at next : ℕ} → next ≡ at → at ≤ length out → Puts [] out at out next
-nothing out {at} is room = rw is (none out at room)
-
 -- A part of k elements that a list of its length replaces.
-replaced : {A : Type 0} (t : List A) {out last : List A} {at k next : ℕ} → k ≡ length t → next ≡ at + length t → at + length t ≤ length out →
+pub replaced : {A : Type 0} (t : List A) {out last : List A} {at k next : ℕ} → k ≡ length t → next ≡ at + length t → at + length t ≤ length out →
     last ≡ t → Puts t out at (put_mid at k out last) next
 replaced t {out} {last} {at} wide behind room is = rw (is, wide, behind, drop-drop (length t) at out) (within t out at (length t) refl room)
 

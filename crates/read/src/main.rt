@@ -37,8 +37,8 @@ fn finish(rt: &(impl Print + Eprint), line: &Line) -> io::Result<()> {
     Ok(())
 }
 
-// The next two functions stand in the program `print` too, but for a test: shared, they would be public, and no contract could say what an
-// input brings.
+// The next two functions stand in the program `print` too, but for a test. Shared, they would be public, and every public function has to
+// ensure something: here no contract could say what an input brings.
 
 // Takes the bytes that one read brought, up to the first write that fails.
 fn take(rt: &(impl Print + Eprint), line: &mut Line, bytes: &[u8]) -> io::Result<()> {

@@ -49,47 +49,19 @@ fn all_of(digits: u64) -> Held
     }
 }
 
-// 10^n, by a table: with `pow`, which is a loop, a short number takes a fifth longer to read. The crate `places` has a shorter table, whose
-// bound refuses its edit `distance_from_nine_mended`.
-fn ten_to(n: usize) -> u64
-    requires { n ≤ 18 }
-    ensures { result ≡ 10 ^ n }
-{
-    match n {
-        0 => 1,
-        1 => 10,
-        2 => 100,
-        3 => 1000,
-        4 => 10000,
-        5 => 100000,
-        6 => 1000000,
-        7 => 10000000,
-        8 => 100000000,
-        9 => 1000000000,
-        10 => 10000000000,
-        11 => 100000000000,
-        12 => 1000000000000,
-        13 => 10000000000000,
-        14 => 100000000000000,
-        15 => 1000000000000000,
-        16 => 10000000000000000,
-        17 => 100000000000000000,
-        _ => 1000000000000000000,
-    }
-}
-
 // As many as n digits more, for which there is room.
 fn longer(held: Held, n: usize, v: u64) -> Held
     requires { (n ≤ 18) × (held.digits < 10 ^ 18) × (held.digits * 10 ^ n + v < 10 ^ 19) }
     ensures { (result.dropped ≡ held.dropped) × ((a : ℕ) → Keeps a held → Keeps (a * 10 ^ n + v) result) }
 {
     Held {
-        digits: held.digits * ten_to(n) + v,
+        digits: held.digits * places::pow10(n) + v,
         ..held
     }
 }
 
-// Digits at the head of a text, one by one, while there is room for them.
+// Digits at the head of a text, one by one, while there is room for them. Here and below a text comes with what is held before it: a `Run` has
+// both, and is what is answered, but each caller would have to make one first.
 fn kept(text: &[u8], start: Held) -> Run<'_>
     ensures goes { Goes text.now start result.rest.now result.held }
     ensures ends { result.held.digits < 10 ^ 18 → starts result.rest.now ≡ false }
@@ -236,7 +208,7 @@ fn ending(text: &[u8], end: &[u8], start: Held) -> Option<Held>
     ensures { IfSome result (Goes end.now start []) }
 {
     let n = end.len();
-    if n == 0 || 8 < n || ten_to(18 - n) <= start.digits {
+    if n == 0 || 8 < n || places::pow10(18 - n) <= start.digits {
         return None;
     }
     Some(longer(start, n, last(text, n)?))

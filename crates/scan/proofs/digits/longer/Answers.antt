@@ -11,10 +11,10 @@ room w n v p e h = rw e h
 pub returns : goal.returns
 returns c =
     let held = c.args.held in
-    let p = c.ten_to.result in
+    let p = c.pow10.result in
     let v = c.args.v in (
       refl,
       λ a k.
-          subst (λ (q : ℕ). Kept (a * q + v) (held.digits * p + v) held.dropped held.more) c.ten_to.ensures
-          (longer k p v c.requires.1 (room held.digits c.args.n v p c.ten_to.ensures c.requires.2)),
+          subst (λ (q : ℕ). Kept (a * q + v) (held.digits * p + v) held.dropped held.more) c.pow10.ensures
+          (longer k p v c.requires.1 (room held.digits c.args.n v p c.pow10.ensures c.requires.2)),
     )
