@@ -106,10 +106,6 @@ module _ {h delta x room : ℕ} (ready : ReadyAbove h delta x room) where
     front_is : front ≡ h / (10 ^ k * 2 ^ x) % 10
     front_is = rw (split.front_is, so.left_is, digits_whole h x k) (next_digit (h / 2 ^ x) k)
 
-    -- The next digit is one.
-    pub front_less : front < 10
-    front_less = rw front_is (mod-lt _ (zero-lt-suc 9))
-
     -- The digits that are left.
     pub back_is : back ≡ h / 2 ^ x % 10 ^ k
     back_is = rw (split.back_is, so.left_is) (next_left (h / 2 ^ x) k)

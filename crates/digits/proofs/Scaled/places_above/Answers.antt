@@ -1,20 +1,16 @@
 -- `digits::Scaled::places_above` meets its contract. Assumes nothing.
 use native.Mathlib.Omega.{arith}
 use Rattle.laws.proofs.Puts.{kept}
-use Rattle.digits.proofs.PlacesAbove.{begun, at_most_nine, first_turn, front_less, place_tried, next_turn}
+use Rattle.digits.proofs.PlacesAbove.{begun, at_most_nine, first_turn, place_tried, next_turn}
 use Rattle.digits.proofs.Scaled.places_above.Goals as goal
 
 pub loop-kappa-init : goal.loop-kappa-init
 loop-kappa-init c = first_turn c.requires _ _ _ c.count_decimal_digit32-kappa.ensures c.low_bits-p2.ensures
 
-pub split_digits-s-requires : goal.split_digits-s-requires
-split_digits-s-requires c = omega (arith, c.loop-kappa.invariant.tried.sum, at_most_nine c.requires)
-
-pub digit-len-requires : goal.digit-len-requires
-digit-len-requires c =
+pub digit-len-requires-clause-at_in_bounds : goal.digit-len-requires-clause-at_in_bounds
+digit-len-requires-clause-at_in_bounds c =
     let so = begun c.loop-kappa-test.true c.loop-kappa.invariant in
-    let pre = c.requires in
-    record { at_in_bounds = omega (arith, so.tried.sum, at_most_nine pre, pre.nine, kept so.tried.text); d_bound = front_less pre so c.split_digits-s.ensures }
+    omega (arith, so.tried.sum, at_most_nine c.requires, c.requires.nine, kept so.tried.text)
 
 pub returns-then-rest-self : goal.returns-then-rest-self
 returns-then-rest-self c =
