@@ -40,7 +40,8 @@ fn scale<P: Powers>(pattern: P) -> Start
     }
 }
 
-// How many digits stand, and the exponent k.
+// How many digits stand, and the exponent k. It is no `Digits` of the crate `digits`, which has the last digit's place: the two would be mistaken
+// for one another.
 #[derive(Clone, Copy)]
 pub struct Decimal {
     pub len: usize,

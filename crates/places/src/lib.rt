@@ -137,7 +137,8 @@ pub fn distance_under(gap: u64, n: usize) -> u64
     0
 }
 
-// Whether the last digit falls once more.
+// Whether the last digit falls once more. The four numbers travel together in these two functions alone, and their one caller has them in a
+// struct with more.
 fn closer(unit: u64, room: u64, distance: u64, rest: u64) -> bool
     requires { rest ≤ room }
     ensures { result ≡ isCloser (measure unit room distance) rest }

@@ -30,7 +30,7 @@ const ROOM: u64 = 1000000000000000000;
 // Eight digits 0.
 const ZEROS: u64 = 0x3030_3030_3030_3030;
 
-// The value of a digit.
+// The value of a digit. One subtraction and one test: the library's `to_digit` takes a `char` and answers a u32, two conversions more.
 pub fn value(b: u8) -> Option<u64>
     ensures { MatchOption result (is_digit b ≡ false) (λ v. (is_digit b ≡ true) × (v ≡ b - byte0)) }
 {
