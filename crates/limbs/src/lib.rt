@@ -114,18 +114,12 @@ fn load_digits(a: &mut [u32], digits: &[u8])
     }
 }
 
-// How a stands to b, by the highest limb in which they differ. It goes by places, since no law tells of the lists of two iterators what their
-// `cmp` does.
+// How a stands to b, by the highest limb in which they differ.
 fn compare(a: &[u32], b: &[u32]) -> Ordering
     requires { length a.now ≡ length b.now }
     ensures { Stands result (total a.now) (total b.now) }
 {
-    for i in (0..a.len()).rev() {
-        if a[i] != b[i] {
-            return a[i].cmp(&b[i]);
-        }
-    }
-    Ordering::Equal
+    a.iter().rev().cmp(b.iter().rev())
 }
 
 // The number that a text's digits make, times 5^fives * 2^twos, into limbs that are all 0.

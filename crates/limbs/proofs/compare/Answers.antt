@@ -1,12 +1,13 @@
--- `limbs::compare` meets its contract: the limbs passed are the same. Assumes nothing.
-use Rattle.std.proofs.Common.{arith}
-use Rattle.limbs.proofs.Ordered.{decided, equal}
+-- `limbs::compare` meets its contract: the limbs are ordered from the highest on. Assumes nothing.
+use Rattle.std.proofs.Common.{◌≡◌, refl}
+use Rattle.std.specs.Ordering.{nat_cmp}
+use Rattle.std.proofs.lemmas.Iterator.Adapters.{YieldsList-from_rev_slice}
+use Rattle.std.proofs.lemmas.Iterator.Search.{cmp_from_yields_List}
+use Rattle.limbs.proofs.Ordered.{decided}
 use Rattle.limbs.proofs.compare.Goals as goal
 
-pub returns-then-a-i : goal.returns-then-a-i
-returns-then-a-i c =
-    decided _ _ c.loop-i.i (λ k. (c.type_inv.a k).fits) (λ k. (c.type_inv.b k).fits) c.requires (omega arith) c.loop-i.invariant
-    c.if-a-i.true c.cmp.result c.cmp.ensures
-
 pub returns : goal.returns
-returns c = equal c.args.a.now c.args.b.now c.loop-i.i c.requires (omega arith) c.loop-i.invariant
+returns c =
+    decided _ _ (λ k. (c.type_inv.a k).fits) (λ k. (c.type_inv.b k).fits) c.requires c.cmp.result
+    (cmp_from_yields_List (λ x y. y ≡ x) _ nat_cmp _ c.cmp.ensures.ran (YieldsList-from_rev_slice c.args.a.now cc)
+    (λ it e. YieldsList-from_rev_slice c.args.b.now cc) (λ x y. refl))
