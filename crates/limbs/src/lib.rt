@@ -122,7 +122,8 @@ fn compare(a: &[u32], b: &[u32]) -> Ordering
     a.iter().rev().cmp(b.iter().rev())
 }
 
-// The number that a text's digits make, times 5^fives * 2^twos, into limbs that are all 0.
+// The number that a text's digits make, times 5^fives * 2^twos, into limbs that are all 0. The next function differs in what it loads: a closure
+// for that would be longer than the two calls.
 fn put_digits(a: &mut [u32], digits: &[u8], by: Factor)
     requires { (by.twos < 32) × Fits a.old (mantissa 0 digits.now) by.fives by.twos }
     ensures { Becomes a.old a.new (times (mantissa 0 digits.now) by) }
