@@ -1,13 +1,13 @@
 -- `closest::round_shift` meets its contract. Assumes nothing.
 use mathlib.Core.Logic.{inl, inr}
 use mathlib.Core.Path.{◌≡◌, sym, ap, ◌∙◌}
-use Prim.Native.Nat.{ℕ, ◌-◌, ◌*◌, ◌/◌, ◌%◌, ◌^◌, ◌≤◌}
+use Prim.Native.Nat.{ℕ, ◌-◌, ◌*◌, ◌/◌, ◌%◌, ◌^◌}
 use native.Mathlib.Nat.{mod-eq_of_lt, div-mul-le_self, lt_of_le_of_lt}
 use native.Mathlib.Omega.{arith}
 use lib.Ieee.Nearest.{closest}
 use lib.Pow.{pow_pos}
 use Rattle.laws.proofs.Powers.{two_halves}
-use Rattle.closest.proofs.Halving.{Upward, added, rounded}
+use Rattle.closest.proofs.Halving.{Upward, rounded}
 use Rattle.closest.proofs.round_shift.Goals as goal
 use Rattle.closest.proofs.round_shift.Goals.{Joined-doubled-j, Start, then-doubled-j, else-doubled-j}
 
@@ -25,9 +25,6 @@ upward c =
       | then-doubled-j w ↦ inl ((λ e. w.if-doubled-j.true (back c.before ∙ e)), w.up-is)
       | else-doubled-j w ↦ inr (sym (back c.before) ∙ w.if-doubled-j.false, w.up-is)
     ]
-
-few : (c : Joined-doubled-j) → c.args.m / unit c.before % 2 * c.if-doubled-j.up ≤ 1
-few c = added c.args.m (unit c.before) c.if-doubled-j.up (pow_pos (c.args.j - 1)) (upward c)
 
 pub returns : goal.returns
 returns c =
