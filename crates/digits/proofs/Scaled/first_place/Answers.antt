@@ -10,7 +10,7 @@ use Rattle.laws.proofs.Signed.{minus, minus_fits}
 use Rattle.digits.proofs.Scaled.first_place.Goals as goal
 
 pub pow10-requires : goal.pow10-requires
-pow10-requires c = below_nine c.requires c.places_above-top.ensures c.if-top-self.true
+pow10-requires c = omega (arith, below_nine c.requires c.places_above-top.ensures c.if-top-self.true)
 
 pub shifted-requires-clause-shifted_fits : goal.shifted-requires-clause-shifted_fits
 shifted-requires-clause-shifted_fits c =
