@@ -11,18 +11,13 @@ pub enum Pattern {
     Double(u64),
 }
 
-// The value of a hex digit. By hand, since the library reads digits of base 16 from texts alone, and takes a sign before them.
+// The value of a hex digit.
 #[tactic(auto, unfolding(crate::specs::Hex::digit))]
-fn hex_digit(b: u8) -> Option<u8>
+fn hex_digit(b: u8) -> Option<u32>
     ensures value { result ≡ digit b }
     ensures less { IfSome result (λ d. d < 16) }
 {
-    match b {
-        b'0'..=b'9' => Some(b - b'0'),
-        b'A'..=b'F' => Some(b - b'A' + 10),
-        b'a'..=b'f' => Some(b - b'a' + 10),
-        _ => None,
-    }
+    char::from(b).to_digit(16)
 }
 
 // The number that up to 16 hex digits make.
@@ -33,7 +28,7 @@ fn hex_number(line: &[u8]) -> Option<u64>
 {
     let mut v: u64 = 0;
     for b in line {
-        v = v * 16 + hex_digit(*b)? as u64;
+        v = v * 16 + u64::from(hex_digit(*b)?);
     }
     Some(v)
 }

@@ -7,19 +7,19 @@ use Rattle.hexline.proofs.hex_number.Goals as goal
 pub overflow_mul-v : goal.overflow_mul-v
 overflow_mul-v c = omega (arith, before_it c.loop-b.invariant c.loop-b-test.true c.requires)
 
-pub returns-in_err-v-clause-number : goal.returns-in_err-v-clause-number
-returns-in_err-v-clause-number c =
-    c.from_residual.ensures ∙ sym (ends c.loop-b.invariant c.loop-b-test.true (sym c.in_err-v.ensures.value))
+pub returns-in_err-hex_digit-clause-number : goal.returns-in_err-hex_digit-clause-number
+returns-in_err-hex_digit-clause-number c =
+    c.from_residual.ensures ∙ sym (ends c.loop-b.invariant c.loop-b-test.true (sym c.in_err-hex_digit.ensures.value))
 
 pub overflow_add-v : goal.overflow_add-v
 overflow_add-v c =
-    let digit = c.in_ok-v.ensures in
+    let digit = c.in_ok-hex_digit.ensures in
     omega (arith, in_word c.loop-b.invariant c.loop-b-test.true (sym digit.value) digit.less c.requires)
 
 pub loop-b-preserved : goal.loop-b-preserved
 loop-b-preserved c =
-    let digit = c.in_ok-v.ensures in
-    read_on c.loop-b.invariant c.loop-b-test.true (sym digit.value) digit.less
+    let digit = c.in_ok-hex_digit.ensures in
+    rw c.from.ensures (read_on c.loop-b.invariant c.loop-b-test.true (sym digit.value) digit.less)
 
 pub returns-clause-number : goal.returns-clause-number
 returns-clause-number c = sym (read_end c.loop-b.invariant (omega (arith, c.loop-b-test.false)))
