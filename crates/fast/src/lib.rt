@@ -74,14 +74,14 @@ fn over(m: u64, k: u32) -> u64
 }
 
 // The nearest pattern to digits at a place, both exact.
-fn scaled(digits: u64, place: u32) -> u64
-    requires { (digits ≤ 2 ^ 53) × (10078 ≤ place) × (place ≤ 10122) }
-    ensures { Finds w64 digits place result }
+fn scaled(t: Trimmed) -> u64
+    requires { (t.digits ≤ 2 ^ 53) × (10078 ≤ t.place) × (t.place ≤ 10122) }
+    ensures { Finds w64 t.digits t.place result }
 {
-    if place < UNIT {
-        return over(digits, UNIT - place);
+    if t.place < UNIT {
+        return over(t.digits, UNIT - t.place);
     }
-    times(digits, place - UNIT)
+    times(t.digits, t.place - UNIT)
 }
 
 // Digits without the zeros at their end, as far as there are too many. The digits say how often the loop turns, and an iterator over
@@ -98,15 +98,14 @@ fn trim(digits: u64, place: u32) -> Trimmed
     t
 }
 
-// The nearest pattern to digits at a place, where both are exact, and so one multiplication or division finds it. They come apart from the
-// scan: in a struct each caller would put them together for this call alone.
+// The nearest pattern to digits at a place, where both are exact, and so one multiplication or division finds it.
 pub fn quickly(digits: u64, place: u32) -> Option<u64>
     requires { place ≤ 30000 }
     ensures { IfSome result (λ v. Finds w64 digits place v) }
 {
     let t = trim(digits, place);
     if t.digits <= EXACT && FIRST <= t.place && t.place <= LAST {
-        Some(scaled(t.digits, t.place))
+        Some(scaled(t))
     } else {
         None
     }

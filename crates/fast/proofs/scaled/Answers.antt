@@ -3,10 +3,10 @@ use mathlib.Core.Path.{◌∙◌}
 use Rattle.fast.proofs.Places.{as_quotient, as_product}
 use Rattle.fast.proofs.scaled.Goals as goal
 
-pub returns-then-place-lt-UNIT : goal.returns-then-place-lt-UNIT
-returns-then-place-lt-UNIT c =
-    λ up down at. c.over.ensures ∙ as_quotient c.args.digits c.args.place up down at c.if-place-lt-UNIT.true
+pub returns-then-t-lt-UNIT : goal.returns-then-t-lt-UNIT
+returns-then-t-lt-UNIT c =
+    λ up down at. c.over.ensures ∙ as_quotient c.args.t.digits c.args.t.place up down at c.if-t-lt-UNIT.true
 
 pub returns : goal.returns
 returns c =
-    λ up down at. c.times.ensures ∙ as_product c.args.digits c.args.place up down at c.if-place-lt-UNIT.false
+    λ up down at. c.times.ensures ∙ as_product c.args.t.digits c.args.t.place up down at c.if-t-lt-UNIT.false
