@@ -10,6 +10,9 @@ use limbs::Factor;
 use patterns::Pattern;
 use std::cmp::Ordering;
 
+// The place of the power 10^0.
+const UNIT: u32 = 10100;
+
 // The midpoint between a pattern and the next one, twice: m * 2^twos units.
 #[derive(Clone, Copy)]
 pub struct Midpoint {
@@ -44,8 +47,8 @@ fn side<P: Pattern>(digits: &[u8], tens: u32, p: u64) -> Ordering
 {
     let h = midpoint_above::<P>(p);
     let unit = P::BIAS + P::FRACTION;
-    if tens < 10100 {
-        let n = 10100 - tens;
+    if tens < UNIT {
+        let n = UNIT - tens;
         let number = Factor {
             fives: 0,
             twos: unit,
@@ -56,7 +59,7 @@ fn side<P: Pattern>(digits: &[u8], tens: u32, p: u64) -> Ordering
         };
         return limbs::against(digits, number, h.m, middle);
     }
-    let n = tens - 10100;
+    let n = tens - UNIT;
     let number = Factor {
         fives: n,
         twos: n + unit,

@@ -14,14 +14,14 @@ unit_is : (w : Width) {size fraction bias ones pair : ℕ} → Numbers w size fr
 unfolding low
 unit_is w its = omega (arith, its.bias_is, its.fraction_is, its.some)
 
-pub returns-then-tens-lt10100 : goal.returns-then-tens-lt10100
-returns-then-tens-lt10100 g c =
+pub returns-then-tens-lt-UNIT : goal.returns-then-tens-lt-UNIT
+returns-then-tens-lt-UNIT g c =
     below_unit g.P.Pattern.width _ (omega (arith, c.BIAS.ensures, c.FRACTION.ensures, unit_is g.P.Pattern.width g.met.P.Pattern.numbers))
     c.against.result (mantissa 0 c.args.digits.now) c.args.tens c.args.p _ _
-    c.midpoint_above-h.ensures c.if-tens-lt10100.true c.against.ensures
+    c.midpoint_above-h.ensures c.if-tens-lt-UNIT.true c.against.ensures
 
 pub returns : goal.returns
 returns g c =
     above_unit g.P.Pattern.width _ (omega (arith, c.BIAS.ensures, c.FRACTION.ensures, unit_is g.P.Pattern.width g.met.P.Pattern.numbers))
     c.against-2.result (mantissa 0 c.args.digits.now) c.args.tens c.args.p _ _
-    c.midpoint_above-h.ensures c.if-tens-lt10100.false c.against-2.ensures
+    c.midpoint_above-h.ensures c.if-tens-lt-UNIT.false c.against-2.ensures
