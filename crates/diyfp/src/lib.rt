@@ -62,7 +62,7 @@ impl DiyFp {
         requires { StandsIn P.width (Shiftable P.width P.width.N) self }
         ensures { Becomes P.width (shifted P.width.N P.width.N) self result }
     {
-        let zeros = u64::leading_zeros(self.f) - (64 - P::PAIR);
+        let zeros = self.f.leading_zeros() - (64 - P::PAIR);
         DiyFp {
             f: self.f << zeros,
             e: self.e - zeros as i32,
