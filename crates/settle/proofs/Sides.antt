@@ -29,7 +29,7 @@ ten_parts (suc n) = rw (pow-succ' 10 n, pow-succ' 5 n, pow-succ' 2 n, ten_parts 
 
 -- The number a * 10^up / 10^down, twice, in units of 2^-low, and a midpoint of m * 2^k units.
 module _ (o : Ordering) (a m k n l up down : ℕ) where
-  -- Where the power of ten is not bel zero, its fives and twos stand at the digits.
+  -- Where the power of ten is not below zero, its fives and twos stand at the digits.
   pub fives_up : up ≡ n + down → Stands o (a * 5 ^ n * 2 ^ (n + (l + 1))) (m * 5 ^ 0 * 2 ^ k) → Stands o (2 * (a * 10 ^ up * 2 ^ l)) (m * 2 ^ k * 10 ^ down)
   fives_up is h =
       let left : a * 5 ^ n * 2 ^ (n + (l + 1)) * 10 ^ down ≡ 2 * (a * 10 ^ up * 2 ^ l) =

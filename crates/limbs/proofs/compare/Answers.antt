@@ -8,6 +8,6 @@ use Rattle.limbs.proofs.compare.Goals as goal
 
 pub returns : goal.returns
 returns c =
-    decided _ _ (λ k. (c.type_inv.a k).fits) (λ k. (c.type_inv.b k).fits) c.requires c.cmp.result
-    (cmp_from_yields_List (λ x y. y ≡ x) _ nat_cmp _ c.cmp.ensures.ran (YieldsList-from_rev_slice c.args.a.now cc)
-    (λ it e. YieldsList-from_rev_slice c.args.b.now cc) (λ x y. refl))
+    let is = cmp_from_yields_List (λ x y. y ≡ x) _ nat_cmp _ c.cmp.ensures.ran (YieldsList-from_rev_slice c.args.a.now cc)
+    (λ it e. YieldsList-from_rev_slice c.args.b.now cc) (λ x y. refl) in
+    decided _ _ (λ k. (c.type_inv.a k).fits) (λ k. (c.type_inv.b k).fits) c.requires c.cmp.result is
