@@ -11,11 +11,11 @@ use Rattle.laws.proofs.Closest.{is_closest, one_closest}
 use Rattle.laws.proofs.Powers.{two_halves}
 use Rattle.laws.proofs.Zeros.{Fills}
 use Rattle.rules.specs.Width.{Width}
-use Rattle.rules.specs.Pattern.{all_ones}
 use Rattle.rules.specs.Reading.{infinity, low, nearest}
 use Rattle.theorems.proofs.Readable.{Readable}
 use Rattle.theorems.proofs.Halfway.{midpoint, midpoint_least, below_midpoint, no_more}
-use Rattle.patterns.specs.Numbers.{Numbers}
+use Rattle.closest.specs.declared.Target.{Target}
+use Rattle.closest.specs.Targets.{Targets, Sized}
 use Rattle.closest.proofs.Packing.{same_power, kept_least, kept_most, nearest_finite}
 
 -- A number of 63 bits or 64, shifted by what it lacks.
@@ -67,47 +67,47 @@ in_units : (n q half X B E L M : ℕ) → X * B ≡ 2 * half * (E * L) → n < (
 in_units n q half X B E L M power less some above =
     omega (arith, mul-le-mul_right B above, ap (λ (z : ℕ). (2 * q + 1) * z) power, mul-lt-mul_of_pos_right less some)
 
--- ---- a significand n of 64 bits, which a width rounds to the place behind
-module _ {w : Width} {size fraction bias ones pair : ℕ} (its : Numbers w size fraction bias ones pair) (n half spare : ℕ) (high : 2 ^ 63 ≤ n) (fits : n < 2 ^ 64) (is : half ≡ 2 ^ (62 - w.S)) (small : spare ≤ 36)
+-- ---- a significand n of 64 bits, which a target's width rounds to the place behind
+module _ (t : Target) (sized : Sized t) (n half spare : ℕ) (high : 2 ^ 63 ≤ n) (fits : n < 2 ^ 64) (is : half ≡ 2 ^ (62 - t.fraction)) (small : spare ≤ 36)
     (clear : spare < beyond n half spare % (2 * half)) where
-  whole : 2 ^ (63 - w.S) ≡ 2 * half
+  whole : 2 ^ (63 - t.fraction) ≡ 2 * half
   whole =
-      two_halves (63 - w.S) (omega (arith, its.few)) ∙ ap (λ (z : ℕ). 2 * 2 ^ z) {x = 63 - w.S - 1} {y = 62 - w.S} (omega arith)
+      two_halves (63 - t.fraction) (omega (arith, sized.few)) ∙ ap (λ (z : ℕ). 2 * 2 ^ z) {x = 63 - t.fraction - 1} {y = 62 - t.fraction} (omega arith)
       ∙ ap (λ (z : ℕ). 2 * z) (sym is)
 
   least : 2 ^ 10 ≤ half
-  least = half_least w.S half its.few is
+  least = half_least t.fraction half sized.few is
 
   most : half ≤ 2 ^ 62
-  most = half_most w.S half is
+  most = half_most t.fraction half is
 
-  rounded : closest n (2 ^ (63 - w.S)) ≡ next_place n half spare
+  rounded : closest n (2 ^ (63 - t.fraction)) ≡ next_place n half spare
   rounded = ap (closest n) whole ∙ next_closest n half spare (omega (arith, least)) (omega (arith, least)) (omega (arith, most)) clear
 
-  digits : w.S + (63 - w.S) ≡ 63
-  digits = omega (arith, its.few)
+  digits : t.fraction + (63 - t.fraction) ≡ 63
+  digits = omega (arith, sized.few)
 
-  place_least : 2 ^ w.S ≤ next_place n half spare
-  place_least = rw (← rounded) (kept_least w.S (63 - w.S) n digits high)
+  place_least : 2 ^ t.fraction ≤ next_place n half spare
+  place_least = rw (← rounded) (kept_least t.fraction (63 - t.fraction) n digits high)
 
-  pub place_most : next_place n half spare ≤ 2 * 2 ^ w.S
-  place_most = rw (← rounded) (kept_most w.S (63 - w.S) n digits fits (63 - w.S) (omega arith))
+  pub place_most : next_place n half spare ≤ 2 * 2 ^ t.fraction
+  place_most = rw (← rounded) (kept_most t.fraction (63 - t.fraction) n digits fits (63 - t.fraction) (omega arith))
 
   -- ---- the number n * 2^e / 2^1200, with x in the exponent's field
-  module _ (r : Readable w) (unit : ℕ) (low_is : unit + low w ≡ 1200) (e x : ℕ) (same : unit + x ≡ e + (63 - w.S)) (few : x + 1 < all_ones w) where
+  module _ {w : Width} (g : Targets t w) (r : Readable w) (e x : ℕ) (same : t.base + x ≡ e + (63 - t.fraction)) (few : x + 1 < t.ones) where
     -- It reads as the place ..
-    reads_place : x * 2 ^ w.S + next_place n half spare ≡ nearest w (n * 2 ^ e) (2 ^ 1200)
-    reads_place = ap (λ (q : ℕ). x * 2 ^ w.S + q) (sym rounded) ∙ nearest_finite its unit low_is n e high fits x same few
+    reads_place : x * 2 ^ t.fraction + next_place n half spare ≡ nearest w (n * 2 ^ e) (2 ^ 1200)
+    reads_place = ap (λ (q : ℕ). x * 2 ^ t.fraction + q) (sym rounded) ∙ nearest_finite g sized n e high fits x same few
 
     -- .. and what is spared above it reads as no later one.
-    no_later : (j : ℕ) → j ≤ spare → nearest w ((n + j) * 2 ^ e) (2 ^ 1200) ≤ x * 2 ^ w.S + next_place n half spare
+    no_later : (j : ℕ) → j ≤ spare → nearest w ((n + j) * 2 ^ e) (2 ^ 1200) ≤ x * 2 ^ t.fraction + next_place n half spare
     no_later j less =
         let q = next_place n half spare in
-        let p = x * 2 ^ w.S + q in
+        let p = x * 2 ^ t.fraction + q in
         let power : 2 ^ x * 2 ^ 1200 ≡ 2 * half * (2 ^ e * 2 ^ low w) =
-        same_power x 1200 (63 - w.S) (e + low w) (omega (arith, low_is)) ∙ rw (whole, pow-add 2 e (low w)) refl in
+        same_power x 1200 (63 - t.fraction) (e + low w) (omega (arith, g.base)) ∙ rw (whole, pow-add 2 e (low w)) refl in
         let above : (2 * q + 1) * 2 ^ x ≤ midpoint w p =
-        midpoint_least w p x q refl place_least place_most in
+        midpoint_least w p x q (ap (λ (s : ℕ). x * 2 ^ s + q) (sym g.fraction)) (rw (← g.fraction) place_least) (rw (← g.fraction) place_most) in
         let below : n + j < (2 * q + 1) * half =
         omega (arith, before_upper n half spare (omega (arith, least)) (omega (arith, least)) (omega (arith, most)) clear) in
         ⊎_elim
@@ -117,7 +117,7 @@ module _ {w : Width} {size fraction bias ones pair : ℕ} (its : Numbers w size 
         (λ (last : infinity w ≤ p). le_trans (no_more w ((n + j) * 2 ^ e) (2 ^ 1200)) last) (which p (infinity w))
 
     -- So it is for a number m that was shifted by s, and for what is open above it.
-    pub both_ends : (m far s k v : ℕ) → n ≡ m * 2 ^ s → e + s ≡ k → far * 2 ^ s ≤ spare → v ≡ x * 2 ^ w.S →
+    pub both_ends : (m far s k v : ℕ) → n ≡ m * 2 ^ s → e + s ≡ k → far * 2 ^ s ≤ spare → v ≡ x * 2 ^ t.fraction →
         (v + next_place n half spare ≡ nearest w (m * 2 ^ k) (2 ^ 1200)) × (nearest w ((m + far) * 2 ^ k) (2 ^ 1200) ≤ v + next_place n half spare)
     both_ends m far s k v full less near at =
         let upper : (n + far * 2 ^ s) * 2 ^ e ≡ (m + far) * 2 ^ k = ap (λ (z : ℕ). z * 2 ^ e) (omega (arith, full)) ∙ unshifted (m + far) e s k less in

@@ -1,5 +1,5 @@
 -- A significand of 64 bits with a binary exponent, read at a width. Assumes nothing.
-use mathlib.Core.Path.{◌≡◌, sym, ap, ◌∙◌}
+use mathlib.Core.Path.{◌≡◌, sym, ap, ap₂, ◌∙◌}
 use Prim.Native.Nat.{ℕ, suc, ◌+◌, ◌-◌, ◌*◌, ◌/◌, ◌%◌, ◌^◌, ◌≤◌, ◌<◌}
 use native.Mathlib.Nat.{le_antisymm, lt_of_le_of_lt, mul_assoc, mul-pos, mul-le-mul_left, mul-le-mul_right, mul-lt-mul_of_pos_right}
 use native.Mathlib.Nat.{le-div_iff_mul-le, div-lt_iff_lt-mul, mod-eq_of_lt}
@@ -13,7 +13,8 @@ use Rattle.laws.proofs.Exponents.{lesser_exponent}
 use Rattle.rules.specs.Width.{Width}
 use Rattle.rules.specs.Pattern.{all_ones}
 use Rattle.rules.specs.Reading.{infinity, low, top, unbounded, nearest}
-use Rattle.patterns.specs.Numbers.{Numbers}
+use Rattle.closest.specs.declared.Target.{Target}
+use Rattle.closest.specs.Targets.{Targets, Sized}
 
 -- A number from 2^a on and below 2^(a + 1) has a + 1 binary digits.
 size_is : (a n : ℕ) → 2 ^ a ≤ n → n < 2 ^ suc a → size n ≡ suc a
@@ -91,50 +92,62 @@ kept_none n j fits more =
     let far : 2 ^ 65 ≤ 2 ^ j = pow_mono {i = 65} {j = j} more in
     one_closest (pow_pos j) (is_closest n (2 ^ j) (pow_pos j)) (record { up = omega (arith, far); down = omega arith })
 
--- ---- by a width's numbers
+-- ---- a target's numbers
 
-module _ {w : Width} {b f i o p : ℕ} (k : Numbers w b f i o p) where
-  -- A field that is at most the ones has room in its place.
-  pub placed : (x : ℕ) → x ≤ all_ones w → x * 2 ^ w.S % 2 ^ 64 ≡ x * 2 ^ w.S
-  placed x few = mod-eq_of_lt (omega (arith, mul-le-mul_right (2 ^ w.S) few, k.infinite))
+-- A field that is at most the ones has room in its place.
+pub placed : {t : Target} → Sized t → (x : ℕ) → x ≤ t.ones → x * 2 ^ t.fraction % 2 ^ 64 ≡ x * 2 ^ t.fraction
+placed {t} sized x few = mod-eq_of_lt (omega (arith, mul-le-mul_right (2 ^ t.fraction) few, sized.fits))
 
-  -- With the power of two of its unit.
-  module _ (unit : ℕ) (is : unit + low w ≡ 1200) (n e : ℕ) (high : 2 ^ 63 ≤ n) (fits : n < 2 ^ 64) where
-    cut : ℕ
-    cut = 63 - w.S
+-- The infinity of a width that has them.
+pub top_is : {t : Target} {w : Width} → Targets t w → infinity w ≡ t.ones * 2 ^ t.fraction
+unfolding infinity
+top_is {t} is = ap₂ (λ (n s : ℕ). n * 2 ^ s) (sym is.ones) (sym is.fraction)
 
-    digits : w.S + cut ≡ 63
+module _ {t : Target} {w : Width} (g : Targets t w) (sized : Sized t) (n e : ℕ) (high : 2 ^ 63 ≤ n) (fits : n < 2 ^ 64) where
+  cut : ℕ
+  cut = 63 - t.fraction
+
+  digits : w.S + cut ≡ 63
+  unfolding cut
+  digits = omega (arith, g.fraction, sized.few)
+
+  -- Below the first full significand.
+  pub nearest-low : (j : ℕ) → e + j ≡ t.base → 63 - t.fraction ≤ j → closest n (2 ^ j) ≡ nearest w (n * 2 ^ e) (2 ^ 1200)
+  unfolding cut nearest top infinity
+  nearest-low j same more =
+      omega (
+        arith,
+        unbounded-low w t.base 1200 cut g.base digits n e high fits j same more,
+        kept_most w.S cut n digits fits j more,
+        mul-le-mul_right (2 ^ w.S) sized.field,
+        ap (λ (x : ℕ). x * 2 ^ w.S) g.ones,
+      )
+
+  -- With x in the exponent's field, to which the hidden bit adds one ..
+  module _ (x : ℕ) (same : t.base + x ≡ e + (63 - t.fraction)) where
+    in_place : unbounded w (n * 2 ^ e) (2 ^ 1200) ≡ x * 2 ^ w.S + closest n (2 ^ (63 - t.fraction))
     unfolding cut
-    digits = omega (arith, k.few)
+    in_place = unbounded_high w t.base 1200 cut g.base digits n e high fits x same
 
-    -- Below the first full significand.
-    pub nearest-low : (j : ℕ) → e + j ≡ unit → 63 - w.S ≤ j → closest n (2 ^ j) ≡ nearest w (n * 2 ^ e) (2 ^ 1200)
+    -- .. a finite number or the first infinite one ..
+    pub nearest_finite : x + 1 < t.ones →
+        x * 2 ^ t.fraction + closest n (2 ^ (63 - t.fraction)) ≡ nearest w (n * 2 ^ e) (2 ^ 1200)
     unfolding cut nearest top infinity
-    nearest-low j same more =
+    nearest_finite few =
+        let room : (x + 2) * 2 ^ w.S ≤ all_ones w * 2 ^ w.S = mul-le-mul_right (2 ^ w.S) (omega (arith, g.ones)) in
+        omega
+        (arith, in_place, room, kept_most w.S cut n digits fits cut (omega arith), ap (λ (s : ℕ). x * 2 ^ s) g.fraction)
+
+    -- .. and from the field of ones on, the infinity.
+    pub nearest_infinite : t.ones ≤ x + 1 → t.ones * 2 ^ t.fraction ≡ nearest w (n * 2 ^ e) (2 ^ 1200)
+    unfolding cut nearest top infinity
+    nearest_infinite many =
+        let past : all_ones w * 2 ^ w.S ≤ (x + 1) * 2 ^ w.S = mul-le-mul_right (2 ^ w.S) (omega (arith, g.ones)) in
         omega (
           arith,
-          unbounded-low w unit 1200 cut is digits n e high fits j same more,
-          kept_most w.S cut n digits fits j more,
-          mul-le-mul_right (2 ^ w.S) k.finite,
+          in_place,
+          past,
+          kept_least w.S cut n digits high,
+          ap (λ (s : ℕ). t.ones * 2 ^ s) g.fraction,
+          ap (λ (o : ℕ). o * 2 ^ w.S) g.ones,
         )
-
-    -- With x in the exponent's field, to which the hidden bit adds one ..
-    module _ (x : ℕ) (same : unit + x ≡ e + (63 - w.S)) where
-      in_place : unbounded w (n * 2 ^ e) (2 ^ 1200) ≡ x * 2 ^ w.S + closest n (2 ^ (63 - w.S))
-      unfolding cut
-      in_place = unbounded_high w unit 1200 cut is digits n e high fits x same
-
-      -- .. a finite number or the first infinite one ..
-      pub nearest_finite : x + 1 < all_ones w →
-          x * 2 ^ w.S + closest n (2 ^ (63 - w.S)) ≡ nearest w (n * 2 ^ e) (2 ^ 1200)
-      unfolding cut nearest top infinity
-      nearest_finite few =
-          let room : (x + 2) * 2 ^ w.S ≤ all_ones w * 2 ^ w.S = mul-le-mul_right (2 ^ w.S) (omega arith) in
-          omega (arith, in_place, room, kept_most w.S cut n digits fits cut (omega arith))
-
-      -- .. and from the field of ones on, the infinity.
-      pub nearest_infinite : all_ones w ≤ x + 1 → infinity w ≡ nearest w (n * 2 ^ e) (2 ^ 1200)
-      unfolding cut nearest top infinity
-      nearest_infinite many =
-          let past : all_ones w * 2 ^ w.S ≤ (x + 1) * 2 ^ w.S = mul-le-mul_right (2 ^ w.S) (omega arith) in
-          omega (arith, in_place, past, kept_least w.S cut n digits high)

@@ -14,6 +14,7 @@ ghost use Rattle.reader.specs.Reads.{Reads};
 ghost use Rattle.reader.specs.Scaled.{Scaled, Scales};
 
 use bounds::Product;
+use closest::Target;
 use patterns::Pattern;
 use scan::{Decimal, Scanned};
 
@@ -78,15 +79,17 @@ fn compared<P: Pattern>(text: &[u8], x: Decimal, p: Product) -> u64
     requires scaled { Scaled x.held.digits x.place p.upper p.exponent }
     ensures { Reads P.width text.now x result }
 {
-    let ends = p.around::<P>(x.held.more);
+    let t = Target::of::<P>();
+    let ends = p.around(x.held.more, t);
     if ends.least == ends.most {
         return ends.least;
     }
-    settle::settle::<P>(
+    settle::settle(
         &text[usize::from(x.negative)..],
         x.place - x.held.dropped,
         ends.least,
         ends.most,
+        t,
     )
 }
 
@@ -100,10 +103,10 @@ fn magnitude<P: Quick>(text: &[u8], x: Decimal, product: Option<Product>) -> u64
         return if x.held.digits == 0 || x.place < FIRST {
             0
         } else {
-            closest::infinity::<P>()
+            infinity::<P>()
         };
     };
-    if let Some(v) = p.at_once::<P>(x.held.more) {
+    if let Some(v) = p.at_once(x.held.more, Target::of::<P>()) {
         return v;
     }
     if !x.held.more {
@@ -114,11 +117,18 @@ fn magnitude<P: Quick>(text: &[u8], x: Decimal, product: Option<Product>) -> u64
     compared::<P>(text, x, p)
 }
 
+// The pattern of the infinity.
+fn infinity<P: Pattern>() -> u64
+    ensures { result ≡ infinity P.width }
+{
+    closest::infinity(Target::of::<P>())
+}
+
 // The pattern that `NaN` is read as.
 fn quiet_nan<P: Pattern>() -> u64
     ensures { result ≡ quiet_nan P.width }
 {
-    closest::infinity::<P>() + (1 << (P::FRACTION - 1))
+    infinity::<P>() + (1 << (P::FRACTION - 1))
 }
 
 // A pattern with a sign. The sign is added as a number, since no branch on it can be foreseen.
@@ -142,9 +152,9 @@ fn read_bits(text: &[u8], wide: bool) -> Option<u64>
             quiet_nan::<u32>()
         }),
         Scanned::Infinite(negative) => Some(if wide {
-            signed::<u64>(negative, closest::infinity::<u64>())
+            signed::<u64>(negative, infinity::<u64>())
         } else {
-            signed::<u32>(negative, closest::infinity::<u32>())
+            signed::<u32>(negative, infinity::<u32>())
         }),
         Scanned::Number(x) => {
             let product = scaled(x.held.digits, x.place);

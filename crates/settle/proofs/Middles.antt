@@ -1,14 +1,14 @@
--- The midpoint above a pattern, by the pattern's exponent field and its other bits. Assumes nothing.
-use mathlib.Core.Path.{◌≡◌, ap}
+-- The midpoint above a pattern, by the pattern's exponent field and its other bits, at a width and by a target's numbers. Assumes nothing.
+use mathlib.Core.Path.{◌≡◌, sym, ap}
 use Prim.Native.Nat.{ℕ, suc, ◌+◌, ◌-◌, ◌*◌, ◌/◌, ◌%◌, ◌^◌, ◌<◌}
 use native.Mathlib.Nat.{div-add-mod', div-lt_iff_lt-mul, mod-lt}
 use native.Mathlib.Omega.{arith}
 use lib.Dec.{lit≤}
 use lib.Pow.{pow_pos}
 use Rattle.rules.specs.Width.{Width}
-use Rattle.rules.specs.Reading.{infinity}
 use Rattle.theorems.proofs.Halfway.{midpoint, midpoint_at}
-use Rattle.patterns.specs.Numbers.{Numbers}
+use Rattle.closest.specs.declared.Target.{Target}
+use Rattle.closest.specs.Targets.{Sized}
 use Rattle.settle.specs.Settles.{Middle}
 
 module _ (w : Width) (p : ℕ) where
@@ -31,15 +31,25 @@ module _ (w : Width) (p : ℕ) where
       let field : b ≡ suc (b - 1) = omega arith in
       midpoint_at w p (b - 1) (2 ^ w.S + p % 2 ^ w.S) (omega (arith, parts, ap (λ (n : ℕ). n * 2 ^ w.S) field)) (omega (arith, rest)) (λ h. omega arith)
 
--- ---- the same with the hidden bit h, and with the bounds that the code needs
-module _ {w : Width} {size fraction bias ones pair : ℕ} (its : Numbers w size fraction bias ones pair) (p h : ℕ) (is : h ≡ 2 ^ w.S) (inside : p < infinity w) where
+-- ---- the same by a target's numbers, with its hidden bit h
+module _ (t : Target) (sized : Sized t) (p h : ℕ) (is : h ≡ 2 ^ t.fraction) (inside : p < t.ones * 2 ^ t.fraction) where
   -- The exponent field is one of the width.
   pub field_few : p / h < 2047
-  unfolding infinity
-  field_few = rw is (omega (arith, its.most, (div-lt_iff_lt-mul (pow_pos w.S)).1 inside))
+  field_few = rw is (omega (arith, sized.most, (div-lt_iff_lt-mul (pow_pos t.fraction)).1 inside))
 
-  pub with_field_0 : p / h ≡ 0 → Middle w p (2 * p + 1) 0
-  with_field_0 none = record { is = subnormal_midpoint w p (rw (← is) none); few = lit≤ tt }
+  pub with_field_0 : p / h ≡ 0 → Middle t p (2 * p + 1) 0
+  with_field_0 none =
+      record {
+        is = λ w at. let s : p / 2 ^ w.S ≡ 0 = rw (← at.fraction, ← is) none in subnormal_midpoint w p s;
+        few = lit≤ tt;
+      }
 
-  pub with_field : 0 < p / h → Middle w p (2 * (h + p % h) + 1) (p / h - 1)
-  with_field some = record { is = rw is (normal_midpoint w p (rw (← is) some)); few = omega (arith, field_few) }
+  pub with_field : 0 < p / h → Middle t p (2 * (h + p % h) + 1) (p / h - 1)
+  with_field some =
+      record {
+        is = λ w at.
+            let same : 2 ^ w.S ≡ h = rw (← at.fraction) (sym is) in
+            let s : 0 < p / 2 ^ w.S = rw same some in
+            rw same at (normal_midpoint w p s);
+        few = omega (arith, field_few);
+      }

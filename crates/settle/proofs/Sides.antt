@@ -10,6 +10,8 @@ use Rattle.rules.specs.Reading.{low}
 use Rattle.std.specs.declared.cmp.Ordering.{Ordering}
 use Rattle.std.specs.declared.cmp.Ordering.TheVariants.{Less, Equal, Greater}
 use Rattle.limbs.specs.Stands.{Stands}
+use Rattle.closest.specs.declared.Target.{Target}
+use Rattle.closest.specs.Targets.{Targets}
 use Rattle.settle.specs.Settles.{Middle, Side}
 
 -- Two numbers stand alike when both are multiplied.
@@ -45,16 +47,21 @@ module _ (o : Ordering) (a m k n l up down : ℕ) where
       rw (is, pow-add 10 n up, ten_parts n, pow-add 2 n k) (omega arith) in
       stands_same o left right (stands_times o (a * 5 ^ 0 * 2 ^ (l + 1)) (m * 5 ^ n * 2 ^ (n + k)) (10 ^ up) (ten_pos up) h)
 
--- The same with the unit's twos, and one for twice the number, as a width has them.
-module _ (w : Width) (unit : ℕ) (is : unit ≡ low w + 1) (o : Ordering) (a tens p m k : ℕ) (middle : Middle w p m k) where
+-- The same with the unit's twos and the midpoint as a target has them.
+module _ (t : Target) (o : Ordering) (a tens p m k : ℕ) (middle : Middle t p m k) where
+  unit_is : (w : Width) → Targets t w → 1201 - t.base ≡ low w + 1
+  unit_is w is = omega (arith, is.base)
+
   pub above_unit : 10100 ≤ tens →
-      Stands o (a * 5 ^ (tens - 10100) * 2 ^ (tens - 10100 + unit)) (m * 5 ^ 0 * 2 ^ k) → Side w a tens p o
-  above_unit more h up down at =
+      Stands o (a * 5 ^ (tens - 10100) * 2 ^ (tens - 10100 + (1201 - t.base))) (m * 5 ^ 0 * 2 ^ k) → (w : Width) → Targets t w → Side w a tens p o
+  above_unit more h w is up down at =
       let n = tens - 10100 in
-      rw middle.is (fives_up o a m k n (low w) up down (omega arith) (rw is at h))
+      let unit = unit_is w is in
+      rw (middle.is w is) (fives_up o a m k n (low w) up down (omega arith) (rw unit at h))
 
   pub below_unit : tens < 10100 →
-      Stands o (a * 5 ^ 0 * 2 ^ unit) (m * 5 ^ (10100 - tens) * 2 ^ (10100 - tens + k)) → Side w a tens p o
-  below_unit less h up down at =
+      Stands o (a * 5 ^ 0 * 2 ^ (1201 - t.base)) (m * 5 ^ (10100 - tens) * 2 ^ (10100 - tens + k)) → (w : Width) → Targets t w → Side w a tens p o
+  below_unit less h w is up down at =
       let n = 10100 - tens in
-      rw middle.is (fives_down o a m k n (low w) up down (omega arith) (rw is at h))
+      let unit = unit_is w is in
+      rw (middle.is w is) (fives_down o a m k n (low w) up down (omega arith) (rw unit at h))

@@ -5,10 +5,12 @@ use Rattle.rules.specs.Reading.{low, nearest}
 use Rattle.theorems.proofs.Halfway.{midpoint}
 use Rattle.std.specs.declared.cmp.Ordering.{Ordering}
 use Rattle.limbs.specs.Stands.{Stands}
+use Rattle.closest.specs.declared.Target.{Target}
+use Rattle.closest.specs.Targets.{Targets}
 
 -- The midpoint above the pattern p, twice, is m * 2^k units.
-pub record Middle (w : Width) (p m k : ℕ) : Type 0 where
-  pub is : midpoint w p ≡ m * 2 ^ k
+pub record Middle (t : Target) (p m k : ℕ) : Type 0 where
+  pub is : (w : Width) → Targets t w → midpoint w p ≡ m * 2 ^ k
   pub few : k ≤ 2046
 
 -- How the number stands to the midpoint above p.

@@ -1,13 +1,15 @@
 // Which of the patterns from one to another a decimal number reads as, by exact comparison with the midpoints between them.
 #![tactic(auto)]
 
-ghost use Rattle.std.specs.Prelude.{◌≤◌, ◌<◌, length};
-ghost use Rattle.rules.specs.Reading.{infinity};
+ghost use Rattle.std.specs.Prelude.{◌*◌, ◌^◌, ◌≤◌, ◌<◌, length};
+ghost use Rattle.rules.specs.Width.{Width};
+ghost use Rattle.theorems.proofs.Readable.{Readable};
 ghost use Rattle.scan.specs.Mantissa.{mantissa};
+ghost use Rattle.closest.specs.Targets.{Targets, Sized};
 ghost use Rattle.settle.specs.Settles.{Middle, Side, Settles};
 
+use closest::Target;
 use limbs::Factor;
-use patterns::Pattern;
 use std::cmp::Ordering;
 
 // The place of the power 10^0.
@@ -21,11 +23,11 @@ pub struct Midpoint {
 }
 
 // The midpoint above a pattern.
-fn midpoint_above<P: Pattern>(p: u64) -> Midpoint
-    requires { p < infinity P.width }
-    ensures { Middle P.width p result.m result.twos }
+fn midpoint_above(p: u64, t: Target) -> Midpoint
+    requires { Sized t × (p < t.ones * 2 ^ t.fraction) }
+    ensures { Middle t p result.m result.twos }
 {
-    let hidden = patterns::hidden_bit::<P>();
+    let hidden = closest::hidden_bit(t);
     let field = p / hidden;
     if field == 0 {
         return Midpoint {
@@ -40,13 +42,13 @@ fn midpoint_above<P: Pattern>(p: u64) -> Midpoint
 }
 
 // How the number with these digits stands to the midpoint above a pattern.
-fn side<P: Pattern>(digits: &[u8], tens: u32, p: u64) -> Ordering
+fn side(digits: &[u8], tens: u32, p: u64, t: Target) -> Ordering
     requires room { (length digits.now ≤ 64) × (9694 ≤ tens) × (tens ≤ 10408) }
-    requires finite { p < infinity P.width }
-    ensures { Side P.width (mantissa 0 digits.now) tens p result }
+    requires finite { Sized t × (p < t.ones * 2 ^ t.fraction) }
+    ensures { (w : Width) → Targets t w → Side w (mantissa 0 digits.now) tens p result }
 {
-    let h = midpoint_above::<P>(p);
-    let unit = P::BIAS + P::FRACTION;
+    let h = midpoint_above(p, t);
+    let unit = 1201 - t.base;
     if tens < UNIT {
         let n = UNIT - tens;
         let number = Factor {
@@ -73,13 +75,13 @@ fn side<P: Pattern>(digits: &[u8], tens: u32, p: u64) -> Ordering
 
 // The pattern, of those from `least` to `most`, that the number with these digits reads as. Of a pattern and the next one the even one is
 // taken at the midpoint.
-pub fn settle<P: Pattern>(digits: &[u8], tens: u32, least: u64, most: u64) -> u64
-    requires { (length digits.now ≤ 64) × (9694 ≤ tens) × (tens ≤ 10408) }
-    ensures { Settles P.width (mantissa 0 digits.now) tens least most result }
+pub fn settle(digits: &[u8], tens: u32, least: u64, most: u64, t: Target) -> u64
+    requires { (length digits.now ≤ 64) × (9694 ≤ tens) × (tens ≤ 10408) × Sized t }
+    ensures { (w : Width) → Readable w → Targets t w → Settles w (mantissa 0 digits.now) tens least most result }
 {
-    let last = most.min(closest::infinity::<P>());
+    let last = most.min(closest::infinity(t));
     for p in least..last {
-        match side::<P>(digits, tens, p) {
+        match side(digits, tens, p, t) {
             Ordering::Less => return p,
             Ordering::Equal => return p + p % 2,
             Ordering::Greater => {}

@@ -10,42 +10,36 @@ use Rattle.laws.proofs.Branches.{which}
 use Rattle.laws.proofs.Zeros.{Fills, fills}
 use Rattle.rules.specs.Reading.{nearest}
 use Rattle.closest.proofs.pack.Goals as goal
+use Rattle.closest.proofs.pack.Goals.{Start}
 
-module _ (m e : ℕ) (high : 2 ^ 62 ≤ m) (some : 0 < e) (fits : m < 2 ^ 64) where
-  zeros : ℕ
-  zeros = count_leading_zeros 64 m
+abbrev zeros : Start → ℕ
+zeros s = count_leading_zeros 64 s.args.m
 
-  filled : Fills 64 m zeros
-  unfolding zeros
-  filled = fills 64 m (omega arith) fits
+filled : (s : Start) → Fills 64 s.args.m (zeros s)
+filled s = fills 64 s.args.m (omega (arith, s.requires.0)) (omega arith)
 
-  -- A number of 63 bits or 64 has one leading zero or none.
-  few : zeros < 2
-  few =
-      ⊎_elim (λ less. less)
-      (λ (more : 2 ≤ zeros). absurd (omega (arith, filled.fits, mul-le-mul_left m (pow_mono {i = 2} {j = zeros} more))))
-      (which zeros 2)
+-- A number of 63 bits or 64 has one leading zero or none.
+few : (s : Start) → zeros s < 2
+few s =
+    ⊎_elim (λ less. less)
+    (λ (more : 2 ≤ zeros s). absurd (omega (arith, (filled s).fits, mul-le-mul_left s.args.m (pow_mono {i = 2} {j = zeros s} more))))
+    (which (zeros s) 2)
 
-  shifted : m * 2 ^ zeros % 2 ^ 64 ≡ m * 2 ^ zeros
-  shifted = mod-eq_of_lt filled.fits
+shifted : (s : Start) → s.args.m * 2 ^ zeros s % 2 ^ 64 ≡ s.args.m * 2 ^ zeros s
+shifted s = mod-eq_of_lt (filled s).fits
 
-  -- The same number before and after.
-  same : m * 2 ^ zeros % 2 ^ 64 * 2 ^ (e - zeros) ≡ m * 2 ^ e
-  same =
-      ap (λ (x : ℕ). x * 2 ^ (e - zeros)) shifted
-      ∙ mul_assoc m (2 ^ zeros) (2 ^ (e - zeros))
-      ∙ ap (λ (x : ℕ). m * x) (sym (pow-add 2 zeros (e - zeros)) ∙ ap (λ (x : ℕ). 2 ^ x) (omega (arith, few)))
+-- The same number before and after.
+same : (s : Start) → s.args.m * 2 ^ zeros s % 2 ^ 64 * 2 ^ (s.args.e - zeros s) ≡ s.args.m * 2 ^ s.args.e
+same s =
+    ap (λ (x : ℕ). x * 2 ^ (s.args.e - zeros s)) (shifted s)
+    ∙ mul_assoc s.args.m (2 ^ zeros s) (2 ^ (s.args.e - zeros s))
+    ∙ ap (λ (x : ℕ). s.args.m * x) (sym (pow-add 2 (zeros s) (s.args.e - zeros s)) ∙ ap (λ (x : ℕ). 2 ^ x) (omega (arith, few s)))
 
 pub overflow_sub-e : goal.overflow_sub-e
-unfolding zeros
-overflow_sub-e g c = omega (arith, few c.args.m c.args.e c.requires.0 c.requires.1 (omega arith))
+overflow_sub-e c = omega (arith, few c)
 
 pub pack_high-requires : goal.pack_high-requires
-unfolding zeros
-pack_high-requires g c =
-    let fits : c.args.m < 2 ^ 64 = omega arith in
-    (rw (shifted c.args.m c.args.e c.requires.0 c.requires.1 fits) (filled c.args.m c.args.e c.requires.0 c.requires.1 fits).top, omega arith)
+pack_high-requires c = (rw (shifted c) (filled c).top, omega arith, c.requires.3)
 
 pub returns : goal.returns
-unfolding zeros
-returns g c = c.pack_high.ensures ∙ ap (λ (x : ℕ). nearest g.P.Pattern.width x (2 ^ 1200)) (same c.args.m c.args.e c.requires.0 c.requires.1 (omega arith))
+returns c w g = c.pack_high.ensures w g ∙ ap (λ (x : ℕ). nearest w x (2 ^ 1200)) (same c.before)

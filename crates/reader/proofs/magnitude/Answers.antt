@@ -7,7 +7,7 @@ use native.Mathlib.Omega.{arith}
 use Rattle.std.proofs.Common.{rules}
 use Rattle.reader.specs.Reads.{Reads}
 use Rattle.reader.specs.Scaled.{Untabled, Scales}
-use Rattle.reader.proofs.Magnitudes.{without_digits, too_small, too_large, found_quickly}
+use Rattle.reader.proofs.Magnitudes.{without_digits, too_small, too_large, shown_at_once, found_quickly}
 use Rattle.reader.proofs.magnitude.Goals as goal
 
 -- What is beyond the table, with digits and not below it, is above it.
@@ -33,3 +33,10 @@ pub returns-in-Some-quickly : goal.returns-in-Some-quickly
 returns-in-Some-quickly g c =
     let all : c.args.x.held.more ≡ false = search rules in
     found_quickly g.P.Pattern.width g.met.P.Pattern.spanned c.args.text.now c.args.x _ all c.in-Some-quickly.ensures
+
+pub returns-in-Some-at_once : goal.returns-in-Some-at_once
+returns-in-Some-at_once g c =
+    let w = g.P.Pattern.width in
+    let x = c.args.x in
+    shown_at_once w g.met.P.Pattern.spanned c.args.text.now x _ _ (subst (Scales x.held.digits x.place) c.in-Some.is c.requires.scaled) _
+    (c.in-Some-at_once.ensures w g.met.P.Pattern.spanned.readable c.of.ensures.0)

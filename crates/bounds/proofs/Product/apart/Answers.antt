@@ -1,15 +1,14 @@
 -- `bounds::Product::apart` meets its contract. Assumes nothing.
-use mathlib.Core.Path.{◌≡◌, ap, ◌∙◌}
+use mathlib.Core.Path.{◌≡◌}
 use Prim.Native.Nat.{ℕ, ◌+◌, ◌-◌, ◌*◌, ◌/◌, ◌%◌, ◌^◌, ◌≤◌, ◌<◌}
 use native.Mathlib.Nat.{mod-eq_of_lt, mul-le-mul_left, mul-le-mul_right}
 use native.Mathlib.Omega.{arith}
 use lib.Pow.{pow_mono}
-use Rattle.rules.specs.Pattern.{all_ones}
+use Rattle.closest.specs.declared.Target.{Target}
+use Rattle.closest.specs.Targets.{Sized}
 use Rattle.closest.proofs.Packing.{one_shifted, placed}
 use Rattle.bounds.proofs.Decisions.{shifted, half_least, half_most, place_most, both_ends}
-use Rattle.bounds.proofs.Product.apart.Given.{Over}
 use Rattle.bounds.proofs.Product.apart.Goals as goal
-use Rattle.bounds.proofs.Product.apart.Goals.{After-FRACTION-2, After-FRACTION-3}
 
 -- What the upper half lacks to 64 bits, and the upper half with as many.
 abbrev short : ℕ → ℕ
@@ -29,67 +28,60 @@ twice : (m far : ℕ) → far * 2 ^ short m ≤ 2 * far
 twice m far = omega (arith, mul-le-mul_left far (pow_mono {i = short m} {j = 1} (omega arith)))
 
 -- Half a place.
-abbrev half : (g : Over) → After-FRACTION-2 g → ℕ
-half g c = 1 * 2 ^ (62 - c.FRACTION-2.result) % 2 ^ 64
+abbrev half : Target → ℕ
+half t = 1 * 2 ^ (62 - t.fraction) % 2 ^ 64
 
-half_is : (g : Over) (c : After-FRACTION-2 g) → half g c ≡ 2 ^ (62 - g.P.Pattern.width.S)
-half_is g c =
-    one_shifted (62 - c.FRACTION-2.result) (omega arith)
-    ∙ ap (λ (s : ℕ). 2 ^ (62 - s)) (c.FRACTION-2.ensures ∙ g.met.P.Pattern.numbers.fraction_is)
+half_is : (t : Target) → half t ≡ 2 ^ (62 - t.fraction)
+half_is t = one_shifted (62 - t.fraction) (omega arith)
 
-least : (g : Over) (c : After-FRACTION-2 g) → 2 ^ 10 ≤ half g c
-least g c = half_least g.P.Pattern.width.S (half g c) g.met.P.Pattern.numbers.few (half_is g c)
+least : (t : Target) → Sized t → 2 ^ 10 ≤ half t
+least t sized = half_least t.fraction (half t) sized.few (half_is t)
 
-most : (g : Over) (c : After-FRACTION-2 g) → half g c ≤ 2 ^ 62
-most g c = half_most g.P.Pattern.width.S (half g c) (half_is g c)
+most : (t : Target) → half t ≤ 2 ^ 62
+most t = half_most t.fraction (half t) (half_is t)
 
 -- The exponent's field, less the hidden bit.
-abbrev field : (g : Over) → After-FRACTION-3 g → ℕ
-field g c = c.args.self.exponent - short c.args.self.upper + (63 - c.FRACTION.result) - c.unit-unit.result
-
-field_few : (g : Over) (c : After-FRACTION-3 g) → field g c + 1 < all_ones g.P.Pattern.width
-field_few g c = omega (arith, c.if-ONES-field.false, c.ONES.ensures, g.met.P.Pattern.numbers.ones_is)
+abbrev field : ℕ → ℕ → Target → ℕ
+field m e t = e - short m + (63 - t.fraction) - t.base
 
 pub overflow_sub-beyond : goal.overflow_sub-beyond
-overflow_sub-beyond g c = omega (arith, least g c)
+overflow_sub-beyond c = omega (arith, least c.args.t c.requires.1)
 
 pub overflow_sub-beyond-2 : goal.overflow_sub-beyond-2
-overflow_sub-beyond-2 g c =
-    let r = c.args.self.raised in
-    omega (arith, full-high c.args.self.upper r.high (omega arith), most g c)
+overflow_sub-beyond-2 c = omega (arith, full-high c.args.self.upper c.args.self.raised.high (omega arith), most c.args.t)
 
 pub overflow_mul-half : goal.overflow_mul-half
-overflow_mul-half g c = omega (arith, most g c)
+overflow_mul-half c = omega (arith, most c.args.t)
 
 pub overflow_mul-result : goal.overflow_mul-result
-overflow_mul-result g c = omega (arith, most g c.before.before.before)
+overflow_mul-result c = omega (arith, most c.args.t)
 
 pub overflow_add-result-2 : goal.overflow_add-result-2
-overflow_add-result-2 g c =
-    let k = g.met.P.Pattern.numbers in
+overflow_add-result-2 c =
+    let t = c.args.t in
+    let k = c.requires.1 in
     let m = c.args.self.upper in
-    let s = g.P.Pattern.width.S in
-    let x = field g c in
-    let room : (x + 2) * 2 ^ s ≤ all_ones g.P.Pattern.width * 2 ^ s = mul-le-mul_right (2 ^ s) (omega (arith, field_few g c)) in
-    rw (c.from.ensures, c.FRACTION-3.ensures ∙ k.fraction_is)
+    let s = t.fraction in
+    let x = field m c.args.self.exponent t in
+    let room : (x + 2) * 2 ^ s ≤ t.ones * 2 ^ s = mul-le-mul_right (2 ^ s) (omega arith) in
+    rw c.from.ensures
     (omega (
       arith,
-      placed k x (omega (arith, field_few g c)),
-      place_most k (full m) (half g c.before.before.before) (2 * c.args.far) (full-high m c.args.self.raised.high (omega arith)) (omega arith)
-          (half_is g c.before.before.before) (omega arith) c.if-beyond-half.false,
+      placed k x (omega arith),
+      place_most t k (full m) (half t) (2 * c.args.far) (full-high m c.args.self.raised.high (omega arith)) (omega arith) (half_is t) (omega arith)
+          c.if-beyond-half.false,
       room,
-      k.infinite,
+      k.fits,
     ))
 
 pub returns : goal.returns
-returns g c =
-    let k = g.met.P.Pattern.numbers in
+returns c w r is =
+    let t = c.args.t in
+    let k = c.requires.1 in
     let m = c.args.self.upper in
-    let x = field g c in
-    let cut = c.FRACTION.ensures ∙ k.fraction_is in
-    rw (c.from.ensures, c.FRACTION-3.ensures ∙ k.fraction_is)
-    (both_ends k (full m) (half g c.before.before.before) (2 * c.args.far) (full-high m c.args.self.raised.high (omega arith)) (omega arith)
-    (half_is g c.before.before.before) (omega arith) c.if-beyond-half.false
-    g.met.P.Pattern.spanned.readable c.unit-unit.result c.unit-unit.ensures (c.args.self.exponent - short m) x (omega (arith, cut, c.if-place-unit.false)) (field_few g c)
-    m c.args.far (short m) c.args.self.exponent _ (full_is m c.args.self.raised.high (omega arith)) (omega arith) (twice m c.args.far)
-    (placed k x (omega (arith, field_few g c))))
+    let e = c.args.self.exponent in
+    let x = field m e t in
+    rw c.from.ensures
+    (both_ends t k (full m) (half t) (2 * c.args.far) (full-high m c.args.self.raised.high (omega arith)) (omega arith) (half_is t) (omega arith)
+    c.if-beyond-half.false is r (e - short m) x (omega arith) (omega arith) m c.args.far (short m) e _
+    (full_is m c.args.self.raised.high (omega arith)) (omega arith) (twice m c.args.far) (placed k x (omega arith)))

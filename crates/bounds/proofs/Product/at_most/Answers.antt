@@ -7,6 +7,5 @@ use Rattle.bounds.proofs.Products.{halved}
 use Rattle.bounds.proofs.Product.at_most.Goals as goal
 
 pub returns-in-None : goal.returns-in-None
-returns-in-None g c =
-    le_trans (halved g.P.Pattern.width g.met.P.Pattern.spanned.readable (c.args.self.upper + c.args.far) _ c.args.self.exponent (omega arith))
-    (le_of_eq (sym c.pack-in-None.ensures))
+returns-in-None c w r is =
+    le_trans (halved w r (c.args.self.upper + c.args.far) _ c.args.self.exponent (omega arith)) (le_of_eq (sym (c.pack-in-None.ensures w is)))
