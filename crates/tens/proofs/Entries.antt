@@ -28,6 +28,6 @@ entry (x ∷ xs) first zero i passes inside at =
 entry (x ∷ xs) first (suc j) i passes inside at =
     entry xs (suc first) j i (and_right (run (one first x)) (all_from (suc first) xs) passes) (omega arith) (omega arith)
 
-pub of_table : (i : ℕ) → i < 651 → Leading i (get_or POWERS i 0)
+pub of_table : (i : ℕ) → i < 652 → Leading i (get_or POWERS i 0)
 unfolding exponent
 of_table i inside = entry POWERS 0 i i tt inside (omega arith)

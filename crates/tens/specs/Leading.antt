@@ -1,4 +1,4 @@
--- The leading 64 bits of the powers of ten from 10^-342 to 10^308. Assumes nothing.
+-- The leading 64 bits of the powers of ten from 10^-342 to 10^309. Assumes nothing.
 use Rattle.std.specs.Prelude.{ℕ, ◌+◌, ◌*◌, ◌/◌, ◌^◌, ◌≤◌, ◌<◌}
 
 -- The binary exponent of 10^(i - 342)'s leading 64 bits, with 1200 added.
@@ -10,3 +10,10 @@ pub record Leading (i x : ℕ) : Type 0 where
   pub high : 2 ^ 63 ≤ x
   pub below : x * 2 ^ exponent i * 10 ^ 342 ≤ 10 ^ i * 2 ^ 1200
   pub above : 10 ^ i * 2 ^ 1200 < (x + 1) * 2 ^ exponent i * 10 ^ 342
+
+-- Four numbers are those of 10^(i - 342) and of the three powers behind it.
+pub record Fours (i a b c d : ℕ) : Type 0 where
+  pub first : Leading i a
+  pub second : Leading (i + 1) b
+  pub third : Leading (i + 2) c
+  pub fourth : Leading (i + 3) d

@@ -4,7 +4,7 @@
 ghost use Rattle.std.specs.Prelude.{◌≡◌, ◌*◌, ◌/◌, ◌^◌, ◌<◌};
 ghost use Rattle.tens.specs.Leading.{exponent, Leading};
 
-mod table;
+pub mod table;
 
 // The leading 64 bits of 10^(i - 342).
 pub fn leading(i: usize) -> u64

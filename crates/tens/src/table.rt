@@ -1,5 +1,8 @@
-// The table of the powers of ten from 10^-342 to 10^308: the leading 64 bits of each, rounded down.
-pub static POWERS: [u64; 651] = [
+// The table of the powers of ten from 10^-342 to 10^309: the leading 64 bits of each, rounded down.
+ghost use Rattle.std.specs.Prelude.{◌*◌, ◌<◌};
+ghost use Rattle.tens.specs.Leading.{Fours};
+
+pub static POWERS: [u64; 652] = [
     0xeef453d6923bd65a,
     0x9558b4661b6565f8,
     0xbaaee17fa23ebf76,
@@ -651,4 +654,18 @@ pub static POWERS: [u64; 651] = [
     0xb6472e511c81471d,
     0xe3d8f9e563a198e5,
     0x8e679c2f5e44ff8f,
+    0xb201833b35d63f73,
 ];
+
+// Four entries of the table, one behind the other.
+#[derive(Clone, Copy)]
+pub struct Four(pub u64, pub u64, pub u64, pub u64);
+
+// The leading 64 bits of 10^(4 * k - 342) and of the three powers behind it.
+pub fn four_of(k: usize) -> Four
+    requires { k < 163 }
+    ensures { Fours (4 * k) result.0 result.1 result.2 result.3 }
+{
+    let i = 4 * k;
+    Four(POWERS[i], POWERS[i + 1], POWERS[i + 2], POWERS[i + 3])
+}
