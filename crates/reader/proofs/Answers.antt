@@ -46,6 +46,28 @@ module _ (w : Width) (t : List ℕ) (some : 0 < length t) (few : length t ≤ 64
 pub no_further : (w : Width) (t : List ℕ) (x : Decimal) (m : ℕ) → Says t x → Reads w t x m → m ≤ infinity w
 no_further w t x m s reads = rw (reads s) (no_more w _ _)
 
+-- No answer's pattern is beyond the quiet NaN with a sign.
+module _ (w : Width) where
+  abbrev InWidth : Reading → Type 0
+  InWidth a = a.pattern ≤ 2 ^ (w.bits - 1) + quiet_nan w
+
+  says_in_width : (x : Exact) → InWidth (answered w x)
+  unfolding answered quiet_nan with_sign
+  says_in_width refused = omega arith
+  says_in_width notANumber = omega arith
+  says_in_width (infinite true) = omega arith
+  says_in_width (infinite false) = omega arith
+  says_in_width (number true n d) = omega (arith, no_more w n d)
+  says_in_width (number false n d) = omega (arith, no_more w n d)
+
+  pub in-width : (t : List ℕ) → InWidth (reading w t)
+  unfolding reading
+  in-width t = by (unread (length t))
+    where
+      by : (b : Bool) → InWidth (elim b [ true ↦ record { number = 10; pattern = 0 } | false ↦ answered w (exact t) ])
+      by true = omega arith
+      by false = says_in_width (exact t)
+
 -- ---- a pattern with a sign, by a width's numbers
 module _ (w : Width) {size fraction bias ones pair : ℕ} (its : Numbers w size fraction bias ones pair) where
   -- The exponent's field and the significand are all bits but the sign's.
@@ -89,20 +111,6 @@ module _ (w : Width) {size fraction bias ones pair : ℕ} (its : Numbers w size 
   nan_fits = omega (arith, top_is, sign_is, two_halves w.S its.some, pow_pos (w.S - 1))
 
   -- So every answer's pattern has the width's bits.
-  abbrev InWidth : Reading → Type 0
-  InWidth a = a.pattern < 2 ^ w.bits
-
-  says_in_width : (x : Exact) → InWidth (answered w x)
-  unfolding answered
-  says_in_width refused = pow_pos w.bits
-  says_in_width notANumber = nan_fits
-  says_in_width (infinite s) = sign_fits s (infinity w) (omega arith)
-  says_in_width (number s n d) = sign_fits s (nearest w n d) (no_more w n d)
-
-  pub in-width : (t : List ℕ) → InWidth (reading w t)
-  unfolding reading
-  in-width t = by (unread (length t))
-    where
-      by : (b : Bool) → InWidth (elim b [ true ↦ record { number = 10; pattern = 0 } | false ↦ answered w (exact t) ])
-      by true = pow_pos w.bits
-      by false = says_in_width (exact t)
+  pub has_room : (t : List ℕ) → (reading w t).pattern < 2 ^ w.bits
+  unfolding quiet_nan
+  has_room t = omega (arith, in-width w t, top_is, sign_is, two_halves w.S its.some, pow_pos (w.S - 1))

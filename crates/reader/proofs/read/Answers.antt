@@ -12,7 +12,7 @@ use Rattle.rules.specs.Reader.{Reading, reading}
 use Rattle.theorems.proofs.ReadLength.{empty_refused, long_refused}
 use Rattle.reader.specs.Told.{told}
 use Rattle.reader.specs.Widths.{width_of}
-use Rattle.reader.proofs.Answers.{in-width}
+use Rattle.reader.proofs.Answers.{has_room}
 use Rattle.reader.proofs.read.Goals as goal
 
 none : (n : ℕ) → true ≡ (n == 0) → n ≡ 0
@@ -31,4 +31,4 @@ pattern-requires g c =
     let same = ap (λ (n : ℕ). width_of (nat_eq n 64)) c.SIZE.ensures ∙ sym g.met.P.Quick.told_by_size in
     let is : told (λ v. v) (Ok c.in_ok-bits.bits) ≡ reading w t =
     ap (told (λ v. v)) c.in_ok-bits.ensures.value ∙ c.read_bits.ensures ∙ ap (λ (v : Width). reading v t) same in
-    subst (λ (a : Reading). a.pattern < 2 ^ w.bits) (sym is) (in-width w g.met.P.Pattern.numbers t)
+    subst (λ (a : Reading). a.pattern < 2 ^ w.bits) (sym is) (has_room w g.met.P.Pattern.numbers t)
