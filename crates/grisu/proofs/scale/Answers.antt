@@ -49,7 +49,7 @@ times-wm-requires g c =
     (lower_near (sound g) g.met.P.Pattern.small c.requires (c.normalized_boundaries-b.ensures.minus _ c.from_bits-v.ensures), power g (goal.at.times-wm-requires g c).After-get_cached_power-c)
 
 pub overflow_sub-h : goal.overflow_sub-h
-overflow_sub-h g c = one_less (sound g) g.met.P.Pattern.small _ (products g (goal.at.overflow_sub-h g c).After-times-wm)
+overflow_sub-h g c = omega (arith, one_less (sound g) g.met.P.Pattern.small _ (products g (goal.at.overflow_sub-h g c).After-times-wm))
 
 pub overflow_add-result : goal.overflow_add-result
 overflow_add-result g c =
@@ -57,7 +57,7 @@ overflow_add-result g c =
     record { fits = omega (arith, word, one_more (sound g) g.met.P.Pattern.small _ (products g (goal.at.overflow_add-result g c).After-times-wm)) }
 
 pub overflow_sub-result : goal.overflow_sub-result
-overflow_sub-result g c = ordered (sound g) g.met.P.Pattern.small _ (products g (goal.at.overflow_sub-result g c).After-times-wm)
+overflow_sub-result g c = omega (arith, ordered (sound g) g.met.P.Pattern.small _ (products g (goal.at.overflow_sub-result g c).After-times-wm))
 
 pub overflow_sub-result-2 : goal.overflow_sub-result-2
 overflow_sub-result-2 g c = shift_fits (sound g) g.met.P.Pattern.small _ (products g (goal.at.overflow_sub-result-2 g c).After-times-wm)
