@@ -1,14 +1,16 @@
 -- A pair shifted left at once, by the number of zeros above its highest bit set, is the rules' pair, shifted bit by bit. Assumes nothing.
+use mathlib.Core.Logic.{⊎_elim}
 use mathlib.Core.Path.{◌≡◌, sym, ap, ◌∙◌}
-use Prim.Native.Nat.{ℕ, ◌+◌, ◌-◌, ◌*◌, ◌^◌, ◌≤◌, ◌<◌}
-use native.Mathlib.Nat.{mul_assoc, mul-le-mul_right, mul-lt-mul_of_pos_right, le_antisymm}
+use Prim.Native.Nat.{ℕ, suc, ◌+◌, ◌-◌, ◌*◌, ◌%◌, ◌^◌, ◌≤◌, ◌<◌}
+use native.Mathlib.Nat.{mod-eq_of_lt, mul_assoc, mul-le-mul_right, mul-lt-mul_of_pos_right, le_antisymm}
 use native.Mathlib.Omega.{arith}
-use lib.Count.{count_leading_zeros}
+use lib.Count.{count_leading_zeros, leading_length}
 use lib.IntN.{pos, ◌-ℤ◌}
 use lib.Pow.{pow_pos, pow-add, pow_mono}
 use mir.Facts.{to_z_pos}
 use mir.Syntax.{w32}
 use mir.Val.{to_z}
+use Rattle.laws.proofs.Branches.{which}
 use Rattle.laws.proofs.Powers.{two_halves}
 use Rattle.laws.proofs.Signed.{read}
 use Rattle.laws.proofs.Zeros.{Fills, fills, few_zeros}
@@ -21,6 +23,14 @@ use Rattle.diyfp.specs.Pairs.{StandsIn, Becomes, Shiftable}
 use Rattle.patterns.specs.Small.{Small}
 use Rattle.diyfp.proofs.Lowering.{beside}
 use Rattle.diyfp.proofs.Standing.{kind}
+
+-- In a word of 64 bits, a number of n bits has at least the zeros above them.
+pub least_zeros : {n x : ℕ} → n ≤ 64 → x < 2 ^ n → 64 - n ≤ count_leading_zeros 64 x
+least_zeros {n} {x} word less =
+    let l = leading_length 64 x (omega (arith, less, pow_mono {i = n} {j = 64} word)) in
+    ⊎_elim (λ (few : l.0 < suc n). omega (arith, l.1))
+    (λ (more : suc n ≤ l.0). absurd (omega (arith, l.3, less, pow_mono {i = suc n} {j = l.0} more, two_halves (suc n) (omega arith))))
+    (which l.0 (suc n))
 
 -- No two shifts set the highest of n bits and lose none.
 one_distance : (n f y z : ℕ) → 2 ^ n ≡ 2 * 2 ^ (n - 1) → Fills n f y → Fills n f z → y ≡ z
@@ -64,7 +74,7 @@ module _ {w : Width} {v : DiyFp} (small : Small w) (p : StandsIn w (Shiftable w 
   some : 0 < v.f
   some = omega (arith, p.stands.significand, p.kind.some)
 
-  within : v.f < 2 ^ w.N
+  pub within : v.f < 2 ^ w.N
   within = omega (arith, p.stands.significand, p.kind.fits)
 
   few : count_leading_zeros w.N v.f < w.N
@@ -87,6 +97,11 @@ module _ {w : Width} {v : DiyFp} (small : Small w) (p : StandsIn w (Shiftable w 
       rw (at_once w m small.some h, ← s.significand, same_distance)
       (beside small s h.most_exponent (count_leading_zeros w.N v.f) (omega (arith, few))
       (omega (arith, few, h.least_exponent)) _ is)
+
+  -- So it is in a word of 64 bits, by a distance that is found to be that number.
+  pub becomes_by : {z : ℕ} → w.N ≤ 64 → z ≡ count_leading_zeros w.N v.f →
+      Becomes w (shifted w.N w.N) v (record { f = v.f * 2 ^ z % 2 ^ 64; e = read (read v.e -ℤ to_z w32 z) })
+  becomes_by word is = rw is (becomes (mod-eq_of_lt (omega (arith, fits, pow_mono {i = w.N} {j = 64} word))))
 
   -- In a word of 64 bits there are as many zeros more as the word has bits more.
   pub zeros : w.N ≤ 64 → count_leading_zeros 64 v.f ≡ count_leading_zeros w.N v.f + (64 - w.N)
