@@ -1,8 +1,8 @@
 -- The table's index from an exponent, by a multiplication and two shifts: tested at each exponent. Assumes nothing.
 use mathlib.Core.Path.{◌≡◌, sym, ◌∙◌}
 use mathlib.Core.Logic.{⊎_elim}
-use Prim.Native.Nat.{ℕ, ◌+◌, ◌-◌, ◌*◌, ◌^◌, ◌≤◌, ◌<◌}
-use native.Mathlib.Nat.{le_antisymm, mul-le-mul_right}
+use Prim.Native.Nat.{ℕ, ◌+◌, ◌-◌, ◌*◌, ◌/◌, ◌^◌, ◌≤◌, ◌<◌}
+use native.Mathlib.Nat.{le_antisymm, mul-le-mul_left, mul-le-mul_right}
 use native.Mathlib.Omega.{arith}
 use lib.Dec.{lit<}
 use lib.IntN.{ℤ, pos, nat_abs, sub_ℕ, ◌+ℤ◌, ◌-ℤ◌, ◌*ℤ◌}
@@ -93,6 +93,22 @@ module _ {w : Width} {q m : ℕ} (sound : Sound w q) (small : Small w) (handy : 
   fourth : Held (k_of w e) (w.tens - 1 + m) (0 + quotient w m E)
   fourth =
       signed.apart (record { is = is_pos (w.tens - 1) (w.tens - 1) 0 (omega arith) }) third.back (omega (arith, j_is, small.sum, handy.few))
+
+  -- The last difference is held with a smaller slope s too: what it comes to is what decides.
+  pub held_below : {s : ℕ} → s ≤ 78913 → SFits w32 (pos (w.tens - 1) -ℤ read (shr_z (read (read (raised w e) *ℤ pos s)) (2 ^ 18)))
+  held_below {s} less =
+      let n = E + (w.N - 3) in
+      let low : off w * s ≤ off w * 78913 = mul-le-mul_left (off w) less in
+      let slow : n * s ≤ n * 78913 = mul-le-mul_left n less in
+      let product : Held (read (raised w e) *ℤ pos s) (n * s) (off w * s) =
+      scaled s first.back (record { above = omega (arith, slow, small.sum, sound.wide); under = omega (arith, low, small.sum, sound.wide) }) in
+      let shift : Held (shr_z (read (read (raised w e) *ℤ pos s)) (2 ^ 18)) ((n * s + (m * 2 ^ 18 - off w * s)) / 2 ^ 18) m =
+      held
+      (floored (2 ^ 18) m (lit< tt) (omega arith)
+      (also (n * s + (m * 2 ^ 18 - off w * s)) (m * 2 ^ 18) product.back (omega (arith, low, handy.whole))))
+      (record { above = omega (arith, slow, small.sum, handy.few); under = omega (arith, handy.few) }) in
+      (signed.apart (record { is = is_pos (w.tens - 1) (w.tens - 1) 0 (omega arith) }) shift.back
+      (record { above = omega (arith, small.sum, handy.few); under = omega (arith, slow, small.sum, handy.few) })).fits
 
   -- The code's steps give k.
   pub steps : Steps w e E

@@ -2,12 +2,13 @@
 use mathlib.Core.Path.{◌≡◌}
 use Prim.Native.Nat.{ℕ, ◌-◌}
 use native.Mathlib.Omega.{arith}
+use lib.Dec.{lit≤}
 use lib.IntN.{pos, sub_ℕ}
 use mir.Syntax.{w32}
 use mir.Val.{to_z}
 use Rattle.rules.specs.Width.{off}
 use Rattle.powers.proofs.Casts.{cast}
-use Rattle.powers.proofs.Indexing.{Steps, most, steps}
+use Rattle.powers.proofs.Indexing.{Steps, most, held_below, steps}
 use Rattle.powers.proofs.power_k.Given.{Over}
 use Rattle.powers.proofs.power_k.Goals as goal
 use Rattle.powers.proofs.power_k.Goals.{After-PAIR}
@@ -31,7 +32,10 @@ tens g c =
     cast _ _ (omega (arith, c.TENS.ensures, is)) (omega (arith, c.TENS.ensures, is, g.met.P.Pattern.small.sum))
 
 pub overflow_sub-result-3 : goal.overflow_sub-result-3
-overflow_sub-result-3 g c = rw (pair g c, tens g c) (own g c).subtracts
+overflow_sub-result-3 g c =
+    rw (pair g c, tens g c)
+    (held_below g.met.P.Pattern.printable.sound g.met.P.Pattern.small g.met.P.Powers.tabled.handy c.requires.raised
+    (record { is = c.requires.exponent }) (most c.requires c.requires.raised c.requires.exponent) (lit≤ tt))
 
 pub returns : goal.returns
 returns g c E p = rw (pair g c, tens g c) (at g c E p).is
