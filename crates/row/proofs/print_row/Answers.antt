@@ -9,7 +9,7 @@ use Rattle.row.proofs.print_row.Goals as goal
 
 pub returns-in_default : goal.returns-in_default
 returns-in_default g c =
-    let none : length (map g.P.Pattern.number c.args.patterns.now) ≡ 0 = rw length-map c.in_default.ensures.cases in
+    let none : length (map g.P.Pattern.number c.args.patterns.now) ≡ 0 = rw length-map (omega (arith, c.in_default.ensures.cases)) in
     end {out = c.args.out.now} (start (omega (arith, none))) (omega (arith, none))
 
 pub byte-at-requires : goal.byte-at-requires
