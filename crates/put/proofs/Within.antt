@@ -1,11 +1,10 @@
 -- What the library's ways to write a part of a list put there. Assumes nothing.
 use mathlib.Core.Path.{◌≡◌, refl, ap, ◌∙◌}
-use mathlib.Core.List.{List, ◌++◌, append_assoc}
-use Prim.Native.Nat.{ℕ, ◌+◌, ◌-◌, ◌≤◌}
+use mathlib.Core.List.{List, ◌++◌}
+use Prim.Native.Nat.{ℕ, ◌+◌, ◌≤◌}
 use native.Mathlib.Omega.{arith}
 use lib.ListN.{length, take, drop, replicate, length-replicate, length-take, length-drop}
-use lib.Seq.{drop-drop, slice, length-slice, paste}
-use Rattle.std.proofs.lemmas.Slice.{between_is}
+use lib.Seq.{drop-drop}
 use borrow.Rule.Slice.PartMut.{put_mid}
 use Rattle.laws.specs.Puts.{placed, Puts}
 
@@ -26,11 +25,3 @@ filled y n {out} {last} {at} wide behind room is =
     let long : length (replicate n y) ≡ n = length-replicate n y in
     let whole : length (take n (drop at out)) ≡ n = simp (length-take, length-drop) (omega arith) in
     replaced (replicate n y) (omega (arith, wide, long)) (omega (arith, behind, long)) (omega (arith, room, long)) (is ∙ ap (λ (m : ℕ). replicate m y) (rw wide whole))
-
--- A part that is copied to another place.
-pub copied : {A : Type 0} (out : List A) (from end by : ℕ) → from ≤ end → end + by ≤ length out →
-    Puts (slice from end out) out (from + by) (paste out (from + by) (drop from out) (end - from)) (end + by)
-copied {A} out from end by ordered room =
-    let behind : from + by + (end - from) ≡ end + by = omega arith in
-    let put = within {A = A} (slice from end out) out (from + by) (end - from) (length-slice from end out (omega arith)) (omega arith) in
-    rw (between_is out from end, append_assoc, ← behind) put

@@ -48,12 +48,15 @@ pub fn zeros(buf: &mut [u8], at: usize, n: usize) -> usize
     end
 }
 
-// Puts the bytes between two places `by` places further up, and answers the place behind them.
+// Puts the bytes between two places `by` places further up, the last first, and answers the place behind them. The library's copy_within would
+// have the archive for C need memmove of its caller.
 pub fn moved(buf: &mut [u8], from: usize, end: usize, by: usize) -> usize
     requires from_le_end { from ≤ end }
     requires by_in_bounds { end + by ≤ length buf.old }
     ensures { Puts (slice from end buf.old) buf.old (from + by) buf.new result }
 {
-    buf.copy_within(from..end, from + by);
+    for i in (from..end).rev() {
+        buf[i + by] = buf[i];
+    }
     end + by
 }
