@@ -1,6 +1,8 @@
 // Reads each text that standard input lists, one to a line, and writes its patterns of 32 and of 64 bits in hex.
 #![tactic(auto)]
 
+ghost use Rattle.std.specs.Prelude.{◌≤◌};
+
 use lines::Line;
 use reader::ReadError;
 use std::io;
@@ -8,6 +10,12 @@ use std::io::Read;
 
 // The most bytes that one read takes.
 const CHUNK: usize = 65536;
+
+// How many bytes two patterns take, with a space and a line end.
+const LINE: usize = 26;
+
+// The hex digits.
+static HEX: [u8; 16] = *b"0123456789abcdef";
 
 // Says on standard error why a line is not read. The run goes on where that cannot be written.
 fn complain(rt: &impl Eprint, number: u64, why: &str) {
@@ -22,13 +30,33 @@ fn text(line: &Line) -> &[u8] {
     }
 }
 
+// Puts the last hex digits of a number from one place of a line up to another.
+fn put_hex(line: &mut [u8; LINE], from: usize, end: usize, number: u64)
+    requires { end ≤ 26 }
+{
+    let mut left = number;
+    for i in (from..end).rev() {
+        line[i] = HEX[(left % 16) as usize];
+        left /= 16;
+    }
+}
+
+// Writes the patterns of 32 and of 64 bits. By a format, which was tried, the program took up to 1.7 times as long.
+fn show(rt: &impl Print, narrow: u32, wide: u64) -> io::Result<()> {
+    let mut line = [b' '; LINE];
+    put_hex(&mut line, 0, 8, u64::from(narrow));
+    put_hex(&mut line, 9, 25, wide);
+    line[25] = b'\n';
+    rt.write_all(&line)
+}
+
 // Reads what a whole line says, at both widths.
 fn finish(rt: &(impl Print + Eprint), line: &Line) -> io::Result<()> {
     let single = reader::read::<u32>(text(line));
     match reader::read::<u64>(text(line)) {
         Ok(wide) => {
             if let Ok(narrow) = single {
-                println!(rt; "{narrow:08x} {wide:016x}")?;
+                show(rt, narrow, wide)?;
             }
         }
         Err(ReadError::WrongLength) => complain(rt, line.number(), "not 1 to 64 bytes"),
