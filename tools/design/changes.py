@@ -40,10 +40,8 @@ NAMES = {
     "bounds::at_most": "bounds::Product::at_most",
     "bounds::at_once": "bounds::Product::at_once",
     "bounds::around": "bounds::Product::around",
-    "closest::Target": "patterns::Pattern",
-    "closest::binary32": "patterns::Pattern",
-    "closest::binary64": "patterns::Pattern",
-    "closest::hidden_bit": "patterns::hidden_bit",
+    "closest::binary32": "closest::Target::of",
+    "closest::binary64": "closest::Target::of",
     "limbs::chunk_at": "limbs::next_chunk",
     "scan::eight": "scan::first",
     "scan::starts_at": "scan::starts",
@@ -51,16 +49,13 @@ NAMES = {
     "reader::Outcome64": "reader::ReadError",
     "reader::tabled32": "reader::magnitude",
     "reader::tabled64": "reader::magnitude",
-    "reader::infinite": "closest::infinity",
+    "reader::infinite": "reader::infinity",
     "reader::sign_bit": "reader::signed",
 }
 
 
 NOW = {
     # functions and types
-    "closest::Target": "the constants of `Pattern` (`patterns`)",
-    "closest::binary32": "`Pattern` of `u32`, and its law `numbers`",
-    "closest::binary64": "`Pattern` of `u64`, and its law `numbers`",
     "fast::Quick": "`Option<u64>`",
     "layout::magnitude": "`i32::unsigned_abs`",
     "limbs::Order": "`std::cmp::Ordering`",
@@ -80,10 +75,8 @@ NOW = {
     "read::Cursor": "`lines::Line`",
     "read::with_byte": "`Line::push`, which says what is kept",
     "read::text_length": "`text`, a part of the line",
-    "read::hex_digit": "the format `{:08x} {:016x}` in `finish`",
-    "read::put": "the same format",
-    "read::put_hex": "the same format",
-    "read::show": "the same format",
+    "read::hex_digit": "the table `HEX` in `put_hex`",
+    "read::put": "`put_hex`",
     "read::read_text": "`finish`",
     "read::next_number": "`Line::next`",
     "read::take_all": "`take`",
@@ -103,11 +96,7 @@ NOW = {
     "scan::begins_at": "the patterns in `sign`, `number` and `raised`",
     "scan::is_word": "`==` of slices; `compared` says that it is the rules' `same`",
     "settle::even_of": "`p + p % 2` in `settle`",
-    "tens::Four": "the array `POWERS`",
-    "tens::four_of": "the array `POWERS`; `of_table` says `Leading` of each entry",
     # definitions
-    "closest::Targets": "`Numbers` (`patterns`), a law of each kind of patterns",
-    "closest::Sized": "`Numbers` (`patterns`)",
     "hexline::all_digits": "`number_from`, which is none where a byte is no digit",
     "hexline::value_from": "`number_from`",
     "limbs::Goes": "`Chunked`",
@@ -118,7 +107,6 @@ NOW = {
     "reader::Tabled": "`first` and `last` of `Scaled`, and `Untabled`",
     "reader::told32": "`told`, at `u32`",
     "reader::told64": "`told`, at `u64`",
-    "tens::Fours": "`Leading`, of each entry",
     # lemmas
     "bounds::open_few": "nothing cited it",
     "diyfp::above_fits": "the check finds it",
@@ -130,12 +118,12 @@ NOW = {
     "diyfp::is_served": "`serves` of `grisu`",
     "diyfp::pair_near": "`upper_near`, `lower_near`, `value_near` of `grisu`",
     "diyfp::entry_near": "`power_factor` of `grisu`",
-    "diyfp::decimal_near": "`reread` of `grisu`",
+    "diyfp::decimal_near": "`decimal` of `Cached` and `inside` of `Reach` (`theorems`): k is `tens` less eight times an index inside the table",
     "diyfp::multiplied": "`made` of `grisu`",
-    "diyfp::product_near": "`shift_held` of `grisu`",
+    "diyfp::product_near": "`shift` of `ScaledTo` and `most_x` of `Scale` (`theorems`): the exponent is -x, and x at most N - 4",
     "diyfp::field": "`exponent_field`, `significand_field`",
     "diyfp::masked_field": "`exponent_field`",
-    "diyfp::masked_sum": "`above_least`",
+    "diyfp::masked_sum": "the library's `and_le_r`: a masked number is at most the mask",
     "diyfp::Unbiased": "`above_least`",
     "diyfp::unbiased": "`above_least`",
     "diyfp::Equal": "an equation of the code's pairs",
@@ -160,15 +148,15 @@ NOW = {
     "limbs::below_digits": "`at_other`",
     "limbs::from_digits": "`at_other`",
     "limbs::ended": "the check finds it",
-    "powers::Floors": "nothing cited it",
-    "powers::floors": "nothing cited it",
+    "powers::Floors": "the contract of `index_of`, whose steps the check finds to be held",
+    "powers::floors": "the contract of `index_of`",
     "scan::none_counted": "the check finds it",
     "scan::bounded": "`Power`, which `Raises` says of a number",
     "scan::loads": "`read_word`",
     "scan::both": "`read_word`",
     "scan::starts_at": "`starts_byte`, `starts_end`",
     "scan::ends_at": "`ends_all`",
-    "scan::beside": "`ends_drop`",
+    "scan::beside": "`joined`, which says it of `Passes`",
     "scan::leaves": "`raised_end`, `raised_exponent`",
     "scan::mantissa_end": "`raised_end`",
     "scan::decimals_other": "`raised_other`",
@@ -351,7 +339,7 @@ def lemmas(title, before, after, whole):
         to = name if name in texts else names.get(crate + "::" + short)
         if to is None and texts.get(names.get(short, "")) == plain:
             to = names[short]
-        if to in met and to != name:
+        if to != name and (to in met or to in before):
             to = None
         if to is None:
             gone.append((crate + "::" + short, name, text))
