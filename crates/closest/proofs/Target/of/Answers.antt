@@ -10,7 +10,7 @@ returns g c =
     let its = g.met.P.Pattern.numbers in
     let fraction = c.FRACTION.ensures ∙ its.fraction_is in
     let ones = c.ONES.ensures ∙ its.ones_is in (
-      record { fraction = fraction; base = c.unit.ensures; ones = ones },
+      record { fraction = fraction; base = omega (arith, c.unit.ensures); ones = ones },
       record {
         some = omega (arith, fraction, its.some);
         few = omega (arith, fraction, its.few);
