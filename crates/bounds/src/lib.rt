@@ -23,7 +23,7 @@ pub struct Ends {
 pub struct Product {
     pub upper: u64,
     pub exponent: u32,
-    ghost raised: { Raised upper exponent },
+    pub ghost raised: { Raised upper exponent },
 }
 
 // How many units above the upper half of its product a number may lie: with digits that were not kept, more.
