@@ -10,7 +10,7 @@ use mir.Val.{bool_byte}
 use Rattle.laws.proofs.Powers.{two_halves}
 use Rattle.rules.specs.Width.{Width}
 use Rattle.rules.specs.Pattern.{all_ones}
-use Rattle.rules.specs.Reading.{Exact, refused, notANumber, infinite, number, exact, infinity, nearest, with_sign}
+use Rattle.rules.specs.Reading.{Exact, refused, notANumber, infinite, number, exact, infinity, with_sign}
 use Rattle.rules.specs.Reader.{Reading, quiet_nan, answered, unread, reading}
 use Rattle.theorems.proofs.Halfway.{no_more}
 use Rattle.theorems.proofs.ReadLength.{in_length}
